@@ -15,7 +15,7 @@ use Rattle.std.proofs.Math.Seq.{drop-cons}
 use Rattle.btf_model.specs.Refusal.{Refusal}
 use Rattle.btf_model.specs.Table.{Variant}
 use Rattle.btf_model.specs.Text.{bytes_at, text_at}
-use Rattle.btf_model.specs.RelocationWords.{RelocationSection, HaveNames, is_name, words_named, Words}
+use Rattle.btf_model.specs.RelocationWords.{RelocationSection, SectionsHaveNames, is_name_read, words_named, Words}
 use Rattle.btf_model.specs.Value.{HaveOtherNames, IsAfterOthers, FindsVariant}
 use Rattle.btf_model.proofs.Values.{one_words}
 use Rattle.btf_plain.specs.Error.{MeetsOrNoMemory, IsOrNoMemory, Meets, refusal_of}
@@ -86,22 +86,22 @@ error_here strings name vs i offset v e r returned at others offset_is is =
     (IfSome_then (refusal_of e) is (λ refusal unread. refused_here strings name vs i offset v refusal at others offset_is unread))
 
 -- if the name is UTF-8 or cannot be read, the error is no allocation failure
-pub told_here : (strings name : List ℕ) (vs : List Variant) (i offset : ℕ) (v : Variant) (e : BtfError) (r : Result (Option ℕ) BtfError) → r ≡ Err e → slice_get vs i ≡ Some v → HaveOtherNames strings name (take i vs) → offset ≡ v.name
+pub reported_here : (strings name : List ℕ) (vs : List Variant) (i offset : ℕ) (v : Variant) (e : BtfError) (r : Result (Option ℕ) BtfError) → r ≡ Err e → slice_get vs i ≡ Some v → HaveOtherNames strings name (take i vs) → offset ≡ v.name
     → (IfSome (bytes_at strings offset) IsUtf8 → (refusal : Refusal) × (refusal_of e ≡ Some refusal) × (text_at strings offset ≡ Err refusal)) → HaveUtf8Names strings vs → Meets (λ a. a) r (FindsVariant strings name vs)
-told_here strings name vs i offset v e r returned at others offset_is told utf8 =
+reported_here strings name vs i offset v e r returned at others offset_is reported utf8 =
     let here : IfSome (bytes_at strings offset) IsUtf8 = subst (λ (o : ℕ). IfSome (bytes_at strings o) IsUtf8) (sym offset_is) (all_at (λ (w : Variant). IfSome (bytes_at strings w.name) IsUtf8) vs i v at utf8) in
-    let refused = told here in
+    let refused = reported here in
     subst (λ (x : Result (Option ℕ) BtfError). Meets (λ a. a) x (FindsVariant strings name vs)) (sym returned)
     (refused.0, refused.1, refused_here strings name vs i offset v refused.0 at others offset_is refused.2)
 
 -- ---- sections
 
 -- the section whose name cannot be read, if all names before it can be
-unread_here : (strings name : List ℕ) (ss : List RelocationSection) (i : ℕ) (s : RelocationSection) (refusal : Refusal) → slice_get ss i ≡ Some s → HaveNames strings (take i ss) → text_at strings s.0 ≡ Err refusal → Words strings ss name (Err refusal)
+unread_here : (strings name : List ℕ) (ss : List RelocationSection) (i : ℕ) (s : RelocationSection) (refusal : Refusal) → slice_get ss i ≡ Some s → SectionsHaveNames strings (take i ss) → text_at strings s.0 ≡ Err refusal → Words strings ss name (Err refusal)
 unread_here strings name ss i s refusal at names is = (take i ss, drop (suc i) ss, s, split_at ss i s at, names, is)
 
 -- the same of the error that a call returns
-pub section_error : {X : Type 0} (view : X → List (List ℕ)) (strings name : List ℕ) (ss : List RelocationSection) (i : ℕ) (s : RelocationSection) (e : BtfError) (r : Result X BtfError) → r ≡ Err e → slice_get ss i ≡ Some s → HaveNames strings (take i ss)
+pub section_error : {X : Type 0} (view : X → List (List ℕ)) (strings name : List ℕ) (ss : List RelocationSection) (i : ℕ) (s : RelocationSection) (e : BtfError) (r : Result X BtfError) → r ≡ Err e → slice_get ss i ≡ Some s → SectionsHaveNames strings (take i ss)
     → IfSome (refusal_of e) (λ refusal. text_at strings s.0 ≡ Err refusal) → MeetsOrNoMemory view r (Words strings ss name)
 section_error {X} view strings name ss i s e r returned at names is =
     subst (λ (x : Result X BtfError). MeetsOrNoMemory view x (Words strings ss name)) (sym returned) (IfSome_then (refusal_of e) is (λ refusal unread. unread_here strings name ss i s refusal at names unread))
@@ -112,23 +112,23 @@ text_read strings offset name true is = (name, is)
 text_read strings offset name false is = (is.0, is.1)
 
 -- whether it is the name
-name_read : (strings : List ℕ) (offset : ℕ) (name : List ℕ) (same : Bool) → HasName strings offset name (Ok same) → is_name name (text_at strings offset) ≡ same
-name_read strings offset name true is = ap (is_name name) is ∙ (bytes_eq-Decides name name).1 refl
-name_read strings offset name false is = ap (is_name name) is.1 ∙ differs (bytes_eq name is.0) refl
+name_read : (strings : List ℕ) (offset : ℕ) (name : List ℕ) (same : Bool) → HasName strings offset name (Ok same) → is_name_read name (text_at strings offset) ≡ same
+name_read strings offset name true is = ap (is_name_read name) is ∙ (bytes_eq-Decides name name).1 refl
+name_read strings offset name false is = ap (is_name_read name) is.1 ∙ differs (bytes_eq name is.0) refl
   where
     differs : (b : Bool) → bytes_eq name is.0 ≡ b → b ≡ false
     differs true same = absurd (is.2 (sym ((bytes_eq-Decides name is.0).0 same)))
     differs false same = refl
 
 -- one more section: its name is read,
-pub names_more : (strings name : List ℕ) (ss : List RelocationSection) (i : ℕ) (s : RelocationSection) (same : Bool) → slice_get ss i ≡ Some s → HaveNames strings (take i ss) → HasName strings s.0 name (Ok same) → HaveNames strings (take (i + 1) ss)
+pub names_more : (strings name : List ℕ) (ss : List RelocationSection) (i : ℕ) (s : RelocationSection) (same : Bool) → slice_get ss i ≡ Some s → SectionsHaveNames strings (take i ss) → HasName strings s.0 name (Ok same) → SectionsHaveNames strings (take (i + 1) ss)
 names_more strings name ss i s same at names is = all_more (λ (q : RelocationSection). (text : List ℕ) × (text_at strings q.0 ≡ Ok text)) ss i s at names (text_read strings s.0 name same is)
 
 -- and its records are appended if that is the name
 words_or : Bool → List (List ℕ) → List (List ℕ)
 words_or same words = if same then words else []
 
-one_section : (strings name : List ℕ) (s : RelocationSection) (same : Bool) → is_name name (text_at strings s.0) ≡ same → words_named strings name (s ∷ []) ≡ words_or same s.1
+one_section : (strings name : List ℕ) (s : RelocationSection) (same : Bool) → is_name_read name (text_at strings s.0) ≡ same → words_named strings name (s ∷ []) ≡ words_or same s.1
 unfolding words_or
 one_section strings name s true is = ap (λ (b : Bool). flat_map (λ (q : RelocationSection). q.1) (if b then s ∷ [] else [])) is ∙ append-nil s.1
 one_section strings name s false is = ap (λ (b : Bool). flat_map (λ (q : RelocationSection). q.1) (if b then s ∷ [] else [])) is
@@ -136,7 +136,7 @@ one_section strings name s false is = ap (λ (b : Bool). flat_map (λ (q : Reloc
 words_more : (strings name : List ℕ) (ss : List RelocationSection) (i : ℕ) (s : RelocationSection) (same : Bool) → slice_get ss i ≡ Some s → HasName strings s.0 name (Ok same)
     → words_named strings name (take (i + 1) ss) ≡ words_named strings name (take i ss) ++ words_or same s.1
 words_more strings name ss i s same at is =
-    let test : RelocationSection → Bool = λ q. is_name name (text_at strings q.0) in
+    let test : RelocationSection → Bool = λ q. is_name_read name (text_at strings q.0) in
     ap (words_named strings name) (take_one ss i s at)
     ∙ ap (flat_map (λ (q : RelocationSection). q.1)) (filter-append test (take i ss) (s ∷ []))
     ∙ flat_map-append (λ (q : RelocationSection). q.1) (filter test (take i ss)) (filter test (s ∷ []))
@@ -159,5 +159,5 @@ only_words view strings name ss (Ok found) words answer is = one_words strings s
 only_words view strings name ss (Err e) words answer is = IfSome_then (refusal_of e) words (λ refusal refused. one_words strings ss name (Err refusal) answer refused is)
 
 -- after the last section, all names are read
-pub all_read : (strings name : List ℕ) (ss : List RelocationSection) (i : ℕ) (found : List (List ℕ)) → length ss ≤ i → HaveNames strings (take i ss) → found ≡ words_named strings name (take i ss) → Words strings ss name (Ok found)
-all_read strings name ss i found end names words = (subst (HaveNames strings) (take_all i ss end) names, words ∙ ap (words_named strings name) (take_all i ss end))
+pub all_read : (strings name : List ℕ) (ss : List RelocationSection) (i : ℕ) (found : List (List ℕ)) → length ss ≤ i → SectionsHaveNames strings (take i ss) → found ≡ words_named strings name (take i ss) → Words strings ss name (Ok found)
+all_read strings name ss i found end names words = (subst (SectionsHaveNames strings) (take_all i ss end) names, words ∙ ap (words_named strings name) (take_all i ss end))

@@ -70,13 +70,13 @@ pub found_among : (t : Table) (id : ℕ) (name : List ℕ) (vs : List Variant) (
 found_among t id name vs (Ok found) has finds = (vs, has, finds)
 found_among t id name vs (Err e) has finds = IfSome_then (refusal_of e) finds (λ refusal unread. inr (vs, has, unread))
 
-told_among : (t : Table) (id : ℕ) (name : List ℕ) (vs : List Variant) (r : Result (Option ℕ) BtfError) → HasVariants t id (Ok vs) → Meets (λ v. v) r (FindsVariant t.strings name vs) → Meets (λ v. v) r (Then (HasVariants t id) (FindsVariant t.strings name))
-told_among t id name vs (Ok found) has finds = (vs, has, finds)
-told_among t id name vs (Err e) has finds = (finds.0, finds.1, inr (vs, has, finds.2))
+reported_among : (t : Table) (id : ℕ) (name : List ℕ) (vs : List Variant) (r : Result (Option ℕ) BtfError) → HasVariants t id (Ok vs) → Meets (λ v. v) r (FindsVariant t.strings name vs) → Meets (λ v. v) r (Then (HasVariants t id) (FindsVariant t.strings name))
+reported_among t id name vs (Ok found) has finds = (vs, has, finds)
+reported_among t id name vs (Err e) has finds = (finds.0, finds.1, inr (vs, has, finds.2))
 
-pub told_of : (t : Table) (id : ℕ) (name : List ℕ) (vs : List Variant) (r : Result (Option ℕ) BtfError) → HasVariants t id (Ok vs) → (HaveUtf8Names t.strings vs → Meets (λ v. v) r (FindsVariant t.strings name vs))
+pub reported_of : (t : Table) (id : ℕ) (name : List ℕ) (vs : List Variant) (r : Result (Option ℕ) BtfError) → HasVariants t id (Ok vs) → (HaveUtf8Names t.strings vs → Meets (λ v. v) r (FindsVariant t.strings name vs))
     → TypeHasUtf8Names t id → Meets (λ v. v) r (Then (HasVariants t id) (FindsVariant t.strings name))
-told_of t id name vs r has finds utf8 = told_among t id name vs r has (finds (utf8 vs has))
+reported_of t id name vs r has finds utf8 = reported_among t id name vs r has (finds (utf8 vs has))
 
 -- ---- the type that an id resolves to
 
@@ -87,22 +87,22 @@ pub value_after : (t : Table) (id end : ℕ) (name : List ℕ) (r : Result (Opti
 value_after t id end name (Ok found) resolves finds = (end, resolves, finds)
 value_after t id end name (Err e) resolves finds = IfSome_then (refusal_of e) finds (λ refusal refused. inr (end, resolves, refused))
 
-told_after : (t : Table) (id end : ℕ) (name : List ℕ) (r : Result (Option ℕ) BtfError) → Resolves t.records id (Ok end) → Meets (λ v. v) r (Then (HasVariants t end) (FindsVariant t.strings name)) → Meets (λ v. v) r (Value t id name)
-told_after t id end name (Ok found) resolves finds = (end, resolves, finds)
-told_after t id end name (Err e) resolves finds = (finds.0, finds.1, inr (end, resolves, finds.2))
+reported_after : (t : Table) (id end : ℕ) (name : List ℕ) (r : Result (Option ℕ) BtfError) → Resolves t.records id (Ok end) → Meets (λ v. v) r (Then (HasVariants t end) (FindsVariant t.strings name)) → Meets (λ v. v) r (Value t id name)
+reported_after t id end name (Ok found) resolves finds = (end, resolves, finds)
+reported_after t id end name (Err e) resolves finds = (finds.0, finds.1, inr (end, resolves, finds.2))
 
-pub value_told : (t : Table) (id end : ℕ) (name : List ℕ) (r : Result (Option ℕ) BtfError) → Resolves t.records id (Ok end) → (TypeHasUtf8Names t end → Meets (λ v. v) r (Then (HasVariants t end) (FindsVariant t.strings name))) → NamesAreUtf8 t id
+pub value_reported : (t : Table) (id end : ℕ) (name : List ℕ) (r : Result (Option ℕ) BtfError) → Resolves t.records id (Ok end) → (TypeHasUtf8Names t end → Meets (λ v. v) r (Then (HasVariants t end) (FindsVariant t.strings name))) → NamesAreUtf8 t id
     → Meets (λ v. v) r (Value t id name)
-value_told t id end name r resolves finds utf8 = told_after t id end name r resolves (finds (utf8 end resolves))
+value_reported t id end name r resolves finds utf8 = reported_after t id end name r resolves (finds (utf8 end resolves))
 
 -- a refusal of resolving
 pub unresolved : (t : Table) (id : ℕ) (name : List ℕ) (e : BtfError) (r : Result (Option ℕ) BtfError) → r ≡ Err e → (refusal : Refusal) × (refusal_of e ≡ Some refusal) × Resolves t.records id (Err refusal) → Meets (λ v. v) r (Value t id name)
 unresolved t id name e r returned refused = subst (λ (x : Result (Option ℕ) BtfError). Meets (λ v. v) x (Value t id name)) (sym returned) (refused.0, refused.1, inl refused.2)
 
 -- `Meets` implies `MeetsOrNoMemory`
-pub told_answers : {X Y : Type 0} (view : X → Y) (r : Result X BtfError) (P : Result Y Refusal → Type 0) → Meets view r P → MeetsOrNoMemory view r P
-told_answers view (Ok x) P told = told
-told_answers view (Err e) P told = subst (λ (o : Option Refusal). IfSome o (λ refusal. P (Err refusal))) (sym told.1) told.2
+pub reported_answers : {X Y : Type 0} (view : X → Y) (r : Result X BtfError) (P : Result Y Refusal → Type 0) → Meets view r P → MeetsOrNoMemory view r P
+reported_answers view (Ok x) P reported = reported
+reported_answers view (Err e) P reported = subst (λ (o : Option Refusal). IfSome o (λ refusal. P (Err refusal))) (sym reported.1) reported.2
 
 -- there is one answer
 pub only_one : (t : Table) (id : ℕ) (name : List ℕ) (r : Result (Option ℕ) BtfError) → MeetsOrNoMemory (λ v. v) r (Value t id name) → (answer : Result (Option ℕ) Refusal) → Value t id name answer → IsOrNoMemory (λ v. v) r answer

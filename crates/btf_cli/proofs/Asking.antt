@@ -22,13 +22,13 @@ use Rattle.btf_cli.specs.declared.line.Query.TheVariants.{Copy, Types, Size, Com
 use Rattle.btf_cli.specs.declared.line.Command.{Command}
 use Rattle.btf_cli.specs.declared.line.Command.TheVariants.{Ask, Rewrite}
 use Rattle.btf_cli.specs.Line.{order_word, AsksQuery, AsksCommand, Asks}
-use Rattle.btf_cli.specs.Answer.{Rewrites, Writes, Declines, IsAnswer, IsDeclined, IsWritten}
-use Rattle.btf_cli.proofs.Told.{settings_once}
+use Rattle.btf_cli.specs.Answer.{RewritesAsAsked, Writes, Declines, IsAnswer, IsDeclined, IsWritten}
+use Rattle.btf_cli.proofs.Asked.{settings_once}
 
 -- ---- the meaning of the words, if they have one
 
-abbrev order_told : List ℕ → Endianness
-order_told word = if bytes_eq word (codes "big") then orders.Big else orders.Little
+abbrev order_of_word : List ℕ → Endianness
+order_of_word word = if bytes_eq word (codes "big") then orders.Big else orders.Little
 
 abbrev first_word : List (List ℕ) → List ℕ
 first_word [] = []
@@ -38,25 +38,25 @@ abbrev other_words : List (List ℕ) → List (List ℕ)
 other_words [] = []
 other_words (word ∷ rest) = rest
 
-abbrev word_told : List ℕ → Query
-word_told word = if bytes_eq word (codes "copy") then Copy else Types
+abbrev query_of_word : List ℕ → Query
+query_of_word word = if bytes_eq word (codes "copy") then Copy else Types
 
-abbrev query_told : List (List ℕ) → Query
-query_told [] = Copy
-query_told (word ∷ []) = word_told word
-query_told (word ∷ id ∷ []) = Size (digits_value 10 id)
-query_told (word ∷ id ∷ other ∷ more) = Compat (digits_value 10 id) (digits_value 10 other)
+abbrev query_of_words : List (List ℕ) → Query
+query_of_words [] = Copy
+query_of_words (word ∷ []) = query_of_word word
+query_of_words (word ∷ id ∷ []) = Size (digits_value 10 id)
+query_of_words (word ∷ id ∷ other ∷ more) = Compat (digits_value 10 id) (digits_value 10 other)
 
-order_is_told : (e : Endianness) → order_told (order_word e) ≡ e
-order_is_told orders.Little = refl
-order_is_told orders.Big = refl
+order_of_own_word : (e : Endianness) → order_of_word (order_word e) ≡ e
+order_of_own_word orders.Little = refl
+order_of_own_word orders.Big = refl
 
-query_is_told : (words : List (List ℕ)) (query : Query) → AsksQuery words query → query_told words ≡ query
-query_is_told words Copy asks = ap query_told asks
-query_is_told words Types asks = ap query_told asks
-query_is_told words (Size id) asks = ap query_told asks.1 ∙ ap (λ (n : ℕ). Size n) asks.2.1
-query_is_told words (Compat id other) asks =
-    ap query_told asks.2 ∙ ap (λ (n : ℕ). Compat n (digits_value 10 asks.1)) asks.3.1 ∙ ap (λ (n : ℕ). Compat id n) asks.4.1
+query_of_own_words : (words : List (List ℕ)) (query : Query) → AsksQuery words query → query_of_words words ≡ query
+query_of_own_words words Copy asks = ap query_of_words asks
+query_of_own_words words Types asks = ap query_of_words asks
+query_of_own_words words (Size id) asks = ap query_of_words asks.1 ∙ ap (λ (n : ℕ). Size n) asks.2.1
+query_of_own_words words (Compat id other) asks =
+    ap query_of_words asks.2 ∙ ap (λ (n : ℕ). Compat n (digits_value 10 asks.1)) asks.3.1 ∙ ap (λ (n : ℕ). Compat id n) asks.4.1
 
 -- no query is a rewrite
 pub no_rewrite : (words : List (List ℕ)) (query : Query) → AsksQuery words query → first_word words ≡ codes "rewrite" → ⊥
@@ -100,7 +100,7 @@ settings_alike a b settings alike is = record {
   ids = subst (λ (ids : Option KsymsIds). SetIds settings ids) alike.ids is.ids;
 }
 
-rewrites_alike : (a b : Request) (t : Table) (r : Result Table Refusal) → AreAlike a b → Rewrites a t r → Rewrites b t r
+rewrites_alike : (a b : Request) (t : Table) (r : Result Table Refusal) → AreAlike a b → RewritesAsAsked a t r → RewritesAsAsked b t r
 rewrites_alike a b t (Ok new) alike is =
     (is.0, settings_alike a b is.0 alike is.1, subst (λ (ids : Option KsymsIds). Rewritten (policy_set is.0) t ids (layout_set is.0) (kernel_set is.0) new) alike.ids is.2)
 rewrites_alike a b t (Err refusal) alike is =
@@ -116,7 +116,7 @@ SameCommand (Rewrite request) (Ask query) = ⊥
 SameCommand (Rewrite request) (Rewrite other) = AreAlike request other
 
 commands_alike : (words : List (List ℕ)) (a b : Command) → AsksCommand words a → AsksCommand words b → SameCommand a b
-commands_alike words (Ask query) (Ask other) p q = sym (query_is_told words query p) ∙ query_is_told words other q
+commands_alike words (Ask query) (Ask other) p q = sym (query_of_own_words words query p) ∙ query_of_own_words words other q
 commands_alike words (Ask query) (Rewrite request) p q = no_rewrite words query p (ap first_word q.1)
 commands_alike words (Rewrite request) (Ask query) p q = no_rewrite words query q (ap first_word p.1)
 commands_alike words (Rewrite request) (Rewrite other) p q =
@@ -145,7 +145,7 @@ pub lines_alike : (words : List (String Global)) (a b : Line) → Asks words a �
 lines_alike words a b p q =
     let same : order_word a.endianness ∷ p.0 ≡ order_word b.endianness ∷ q.0 = sym p.1 ∙ q.1 in
     record {
-      endianness = sym (order_is_told a.endianness) ∙ ap (λ (ws : List (List ℕ)). order_told (first_word ws)) same ∙ order_is_told b.endianness;
+      endianness = sym (order_of_own_word a.endianness) ∙ ap (λ (ws : List (List ℕ)). order_of_word (first_word ws)) same ∙ order_of_own_word b.endianness;
       command = commands_alike p.0 a.command b.command p.2 (subst (λ (rest : List (List ℕ)). AsksCommand rest b.command) (ap other_words (sym same)) q.2);
     }
 

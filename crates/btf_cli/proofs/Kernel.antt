@@ -12,7 +12,7 @@ use Rattle.btf_table.specs.Features.{Called}
 use Rattle.btf_rewrite_model.specs.FeatureSet.{feature_name}
 use Rattle.btf_cli.specs.Setting.{Setting, Grants, FillsSized, SectionSize, SymbolOffset, KsymsId, PlaceholderId, Sets, fill_word, texts}
 use Rattle.btf_cli.specs.Settings.{SetAll, is_grant, kernel_set, is_fill, policy_set}
-use Rattle.btf_cli.specs.Request.{AreSet, names, policy_named}
+use Rattle.btf_cli.specs.Request.{AreSet, asks_feature, policy_named}
 use Rattle.btf_cli.specs.declared.request.Request.{Request}
 use Rattle.btf_rewrite_model.proofs.FeatureSet.{AreOfKernel, kernel_agrees as agrees, kernel_grants, names_alike}
 
@@ -66,11 +66,11 @@ policy_is request settings are_set = ap (λ (b : Bool). if b then FillSized else
 
 -- each answer is whether a word is its feature's
 abbrev pub AreNamed : Request → List FeatureAnswer → Type 0
-AreNamed request answers = AreOfKernel (names request) answers
+AreNamed request answers = AreOfKernel (asks_feature request) answers
 
 -- a predicate that gives these answers to every feature
 pub all_named : {F : Type 0} (step : F → BtfFeature → Bool → F → Type 0) (request : Request) (Is : F → Type 0)
-    → ((f g : F) (feature : BtfFeature) (granted : Bool) → Is f → step f feature granted g → (granted ≡ names request feature) × Is g)
+    → ((f g : F) (feature : BtfFeature) (granted : Bool) → Is f → step f feature granted g → (granted ≡ asks_feature request feature) × Is g)
     → (before : F) (answers : List FeatureAnswer) (after : F) → Is before → Called step before answers after → AreNamed request answers
 all_named step request Is each before [] after is called = tt
 all_named step request Is each before (a ∷ answers) after is called =
@@ -80,4 +80,4 @@ all_named step request Is each before (a ∷ answers) after is called =
 pub kernel_agrees : (request : Request) (settings : List Setting) (answers : List FeatureAnswer) → AreSet request settings → AreNamed request answers → AgreeWith answers (kernel_set settings)
 kernel_agrees request settings answers are_set named f among =
     kernel_grants (λ g. list_any (is_grant g) settings) f ∙ sym (words_grant request.words.now settings f are_set.all)
-    ∙ sym (kernel_grants (names request) f) ∙ agrees (names request) answers named f among
+    ∙ sym (kernel_grants (asks_feature request) f) ∙ agrees (asks_feature request) answers named f among

@@ -7,7 +7,7 @@ use Rattle.std.proofs.lemmas.List.{take_all}
 use Rattle.btf_plain.specs.declared.section_index.SectionIndex.{SectionIndex}
 use Rattle.btf_cli.specs.Setting.{Setting, SectionSize, SymbolOffset, Sets, texts}
 use Rattle.btf_cli.specs.Settings.{SetAll, last_set, size_set, offset_set}
-use Rattle.btf_cli.proofs.Told.{told_is}
+use Rattle.btf_cli.proofs.Asked.{asked_is}
 
 -- ---- one word more
 
@@ -48,7 +48,7 @@ next_set words settings i word text all lt is text_is =
 -- the number of the last setting then
 next_last : (number : Setting → Option ℕ) (text : List ℕ) (settings : List Setting) (i : ℕ) (setting : Setting) → (next : IsNext text settings i) → Sets text setting → last_set number (take (i + 1) settings) ≡ option_or (number setting) (last_set number (take i settings))
 next_last number text settings i setting next sets =
-    let same : next.setting ≡ setting = sym (told_is text next.setting next.sets) ∙ told_is text setting sets in
+    let same : next.setting ≡ setting = sym (asked_is text next.setting next.sets) ∙ asked_is text setting sets in
     ap (last_set number) next.more ∙ last_push number (take i settings) next.setting ∙ ap (λ (s : Setting). option_or (number s) (last_set number (take i settings))) same
 
 -- ---- all words

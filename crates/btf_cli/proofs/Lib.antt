@@ -1,5 +1,5 @@
 pub mod NameEnds
-pub mod Told
+pub mod Asked
 pub mod Colons
 pub mod Readings
 pub mod Asking

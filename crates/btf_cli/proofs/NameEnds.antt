@@ -8,7 +8,7 @@ use Rattle.std.proofs.lemmas.Bool.{ne_eqb}
 use Rattle.std.proofs.lemmas.List.{append_assoc, take-append-drop}
 use Rattle.std.proofs.lemmas.Option.{same_Some, none-some}
 use Rattle.std.proofs.lemmas.Str.Pattern.{NoCharPasses-char, drop_at_char}
-use Rattle.btf_cli.specs.Setting.{IsNumber, IsNamed}
+use Rattle.btf_cli.specs.Setting.{IsDecimal, IsNamedNumber}
 
 -- the text before and after the last `=`
 abbrev cut_at : ℕ → List ℕ → Option (List ℕ × List ℕ) → Option (List ℕ × List ℕ)
@@ -38,7 +38,7 @@ digits_not_cut [] all = refl
 digits_not_cut (c ∷ digits) all = ap (cut_at c digits) (digits_not_cut digits all.1) ∙ ap (λ b. if b then Some ([], digits) else None) (ne_eqb c 61 (digit_differs c all.0))
 
 -- the name and the number are the texts before and after the last `=`
-pub cut_named : (text name : List ℕ) (n : ℕ) → (named : IsNamed text name n) → cut_last text ≡ Some (name, named.0)
+pub cut_named : (text name : List ℕ) (n : ℕ) → (named : IsNamedNumber text name n) → cut_last text ≡ Some (name, named.0)
 cut_named text name n named = ap cut_last (named.1 ∙ append_assoc name (codes "=") named.0) ∙ cut_is name named.0 (digits_not_cut named.0 named.2.0.1)
 
 -- ---- `rsplit_once`
@@ -61,11 +61,11 @@ parts_found text front back split =
 -- ---- `NAME=NUMBER`
 
 -- a text without `=` is no name and number
-pub not_named : (text : List ℕ) → RFindsChar 61 text None → (name : List ℕ) (n : ℕ) → IsNamed text name n → ⊥
+pub not_named : (text : List ℕ) → RFindsChar 61 text None → (name : List ℕ) (n : ℕ) → IsNamedNumber text name n → ⊥
 not_named text none name n named = none-some (name, named.0) (sym (none_found text none) ∙ cut_named text name n named)
 
 -- a text without a number after the last `=` is no name and number
-pub not_numbered : (text front back : List ℕ) → SplitsAroundMatch (RFindsChar 61) text front back → ((n : ℕ) → IsNumber 64 back n → ⊥) → (name : List ℕ) (n : ℕ) → IsNamed text name n → ⊥
+pub not_numbered : (text front back : List ℕ) → SplitsAroundMatch (RFindsChar 61) text front back → ((n : ℕ) → IsDecimal 64 back n → ⊥) → (name : List ℕ) (n : ℕ) → IsNamedNumber text name n → ⊥
 not_numbered text front back split unset name n named =
     let parts : (front, back) ≡ (name, named.0) = same_Some (front, back) (name, named.0) (sym (parts_found text front back split).1 ∙ cut_named text name n named) in
-    unset n (subst (λ (digits : List ℕ). IsNumber 64 digits n) (sym (ap (λ (p : List ℕ × List ℕ). p.1) parts)) named.2)
+    unset n (subst (λ (digits : List ℕ). IsDecimal 64 digits n) (sym (ap (λ (p : List ℕ × List ℕ). p.1) parts)) named.2)

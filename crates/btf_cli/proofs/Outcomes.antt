@@ -17,7 +17,7 @@ use Rattle.btf_model.proofs.OnePlain.{one_plain}
 use Rattle.btf_model.proofs.Walks.{one_answer, by_one}
 use Rattle.btf_plain.specs.Error.{refusal_of}
 use Rattle.btf_plain.specs.declared.error.BtfError.{BtfError}
-use Rattle.btf_compare.specs.Pairs.{pair}
+use Rattle.btf_compare.specs.Pairs.{id_pair}
 use Rattle.btf_cli.specs.Setting.{Setting}
 use Rattle.btf_cli.specs.Settings.{layout_set, kernel_set, policy_set}
 use Rattle.btf_cli.specs.Request.{request_words, request_ids}
@@ -27,22 +27,22 @@ use Rattle.btf_cli.specs.declared.line.Query.{Query}
 use Rattle.btf_cli.specs.declared.line.Query.TheVariants.{Copy, Types, Size, Compat}
 use Rattle.btf_cli.specs.declared.line.Command.{Command}
 use Rattle.btf_cli.specs.declared.line.Command.TheVariants.{Ask, Rewrite}
-use Rattle.btf_cli.specs.Answer.{Compares, Rewrites, Writes, Declines, IsAnswer, IsDeclined}
+use Rattle.btf_cli.specs.Answer.{Compares, RewritesAsAsked, Writes, Declines, IsAnswer, IsDeclined}
 use Rattle.btf_cli.specs.Fault.{fault_refusal}
 use Rattle.btf_cli.specs.Output.{output_bytes}
 use Rattle.btf_cli.specs.declared.output.Output.{Output}
 use Rattle.btf_cli.specs.declared.fault.Fault.{Fault}
 use Rattle.btf_cli.specs.declared.fault.Fault.TheVariants as faults
-use Rattle.btf_cli.proofs.Told.{settings_once}
+use Rattle.btf_cli.proofs.Asked.{settings_once}
 
 compared_or_refused : (t : Table) (id other : ℕ) (found : Bool × ℕ) (refusal : Refusal) → Compares t id other (Ok found) → Compares t id other (Err refusal) → ⊥
-compared_or_refused t id other found refusal has not = false≢true (ap is_ok (one_plain t t [] (pair id other) (Err refusal) (Ok found.0) not.0 has.0 not.1 has.1).0)
+compared_or_refused t id other found refusal has not = false≢true (ap is_ok (one_plain t t [] (id_pair id other) (Err refusal) (Ok found.0) not.0 has.0 not.1 has.1).0)
 
 sized_or_refused : (records : List Record) (id n : ℕ) (refusal : Refusal) → HasSize records id (Ok n) → HasSize records id (Err refusal) → ⊥
 sized_or_refused records id n refusal has not =
     none-some n (ap result_ok (one_answer (By (λ at. size_in at (slice_get records at.type))) (by_one (λ at. size_in at (slice_get records at.type))) (record { count = 1; type = id }) (λ _. MaximumTypeDepthReached id) (Err refusal) (Ok n) not has))
 
-rewritten_or_refused : (request : Request) (t new : Table) (refusal : Refusal) → Rewrites request t (Ok new) → Rewrites request t (Err refusal) → ⊥
+rewritten_or_refused : (request : Request) (t new : Table) (refusal : Refusal) → RewritesAsAsked request t (Ok new) → RewritesAsAsked request t (Err refusal) → ⊥
 rewritten_or_refused request t new refusal has not =
     let same : not.0 ≡ has.0 = settings_once (request_words request) not.0 has.0 not.1.all has.1.all in
     rewritten_not_refused (policy_set has.0) t new (request_ids request) (layout_set has.0) (kernel_set has.0) refusal has.2 (subst (λ (settings : List Setting). IsRefused (policy_set settings) t (request_ids request) (layout_set settings) (kernel_set settings) refusal) same not.2)
@@ -76,34 +76,34 @@ pub query_made : (line : Line) (bytes : List ℕ) (query : Query) (t : Table) (r
 query_made line bytes query t (Ok output) is parsed made = (t, parsed, subst (λ (command : Command). Writes command t (output_bytes output)) (sym is) made)
 query_made line bytes query t (Err e) is parsed made = tt
 
-pub query_told : (line : Line) (bytes : List ℕ) (query : Query) (t : Table) (r : Result Output BtfError) → line.command ≡ Ask query → IsTable line.endianness bytes t → IfErr r (λ e. IfSome (refusal_of e) (Declines (Ask query) t))
+pub query_of_words : (line : Line) (bytes : List ℕ) (query : Query) (t : Table) (r : Result Output BtfError) → line.command ≡ Ask query → IsTable line.endianness bytes t → IfErr r (λ e. IfSome (refusal_of e) (Declines (Ask query) t))
     → IfErr r (λ e. IfSome (refusal_of e) (IsDeclined line bytes))
-query_told line bytes query t (Ok output) is parsed told = tt
-query_told line bytes query t (Err e) is parsed told =
+query_of_words line bytes query t (Ok output) is parsed setting_asked = tt
+query_of_words line bytes query t (Err e) is parsed setting_asked =
     elim (refusal_of e) as (λ (o : Option Refusal). IfSome o (Declines (Ask query) t) → IfSome o (IsDeclined line bytes))
-    [ Some refusal ↦ λ declines. record { cause = inr (t, parsed, subst (λ (command : Command). Declines command t refusal) (sym is) declines) } | None ↦ λ none. tt ] told
+    [ Some refusal ↦ λ declines. record { cause = inr (t, parsed, subst (λ (command : Command). Declines command t refusal) (sym is) declines) } | None ↦ λ none. tt ] setting_asked
 
 -- a line by its command
 pub line_of : (line : Line) (command : Command) → line.command ≡ command → line ≡ record { endianness = line.endianness; command = command }
 line_of line command is = ap (λ (x : Command). record { endianness = line.endianness; command = x }) is
 
 -- an error that is propagated has the same cause
-pub same_told : {X : Type 0} (line : Line) (bytes : List ℕ) (e : BtfError) (r : Result X BtfError) → IfSome (refusal_of e) (IsDeclined line bytes) → IsErrAnd r (λ other. other ≡ e)
+pub same_asked : {X : Type 0} (line : Line) (bytes : List ℕ) (e : BtfError) (r : Result X BtfError) → IfSome (refusal_of e) (IsDeclined line bytes) → IsErrAnd r (λ other. other ≡ e)
     → IfErr r (λ other. IfSome (refusal_of other) (IsDeclined line bytes))
-same_told {X} line bytes e r told err =
+same_asked {X} line bytes e r setting_asked err =
     let q = err_from_is_err_and r err in
-    subst (λ (x : Result X BtfError). IfErr x (λ other. IfSome (refusal_of other) (IsDeclined line bytes))) (sym (q.1 ∙ ap (λ (x : BtfError). Err x) q.2)) told
+    subst (λ (x : Result X BtfError). IfErr x (λ other. IfSome (refusal_of other) (IsDeclined line bytes))) (sym (q.1 ∙ ap (λ (x : BtfError). Err x) q.2)) setting_asked
 
 -- ---- faults
 
 -- an error of the bytes that were read is an error of the known input
-pub fault_told : {X : Type 0} (line : Line) (read : List ℕ) (known : Option (List ℕ)) (e : BtfError) (r : Result X Fault) → IfSome known (λ bytes. read ≡ bytes) → IfSome (refusal_of e) (IsDeclined line read) → IsErrAnd r (λ fault. fault ≡ faults.Btf e)
+pub fault_reported : {X : Type 0} (line : Line) (read : List ℕ) (known : Option (List ℕ)) (e : BtfError) (r : Result X Fault) → IfSome known (λ bytes. read ≡ bytes) → IfSome (refusal_of e) (IsDeclined line read) → IsErrAnd r (λ fault. fault ≡ faults.Btf e)
     → IfErr r (λ fault. IfSome known (λ bytes. IfSome (fault_refusal fault) (IsDeclined line bytes)))
-fault_told {X} line read known e r whole told err =
+fault_reported {X} line read known e r whole setting_asked err =
     let q = err_from_is_err_and r err in
     let here : IfSome known (λ bytes. IfSome (refusal_of e) (IsDeclined line bytes)) =
     elim known as (λ (o : Option (List ℕ)). IfSome o (λ bytes. read ≡ bytes) → IfSome o (λ bytes. IfSome (refusal_of e) (IsDeclined line bytes)))
-    [ None ↦ λ none. tt | Some bytes ↦ λ is. subst (λ (bs : List ℕ). IfSome (refusal_of e) (IsDeclined line bs)) is told ] whole in
+    [ None ↦ λ none. tt | Some bytes ↦ λ is. subst (λ (bs : List ℕ). IfSome (refusal_of e) (IsDeclined line bs)) is setting_asked ] whole in
     subst (λ (x : Result X Fault). IfErr x (λ fault. IfSome known (λ bytes. IfSome (fault_refusal fault) (IsDeclined line bytes)))) (sym (q.1 ∙ ap (λ (x : Fault). Err x) q.2)) here
 
 -- ---- statuses

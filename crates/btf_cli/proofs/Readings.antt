@@ -11,7 +11,7 @@ use Rattle.btf_cli.specs.Settings.{SetAll, SetIds, ksyms_set, placeholder_set}
 use Rattle.btf_cli.specs.Word.{setting_of}
 use Rattle.btf_cli.specs.declared.word.Word.{Word}
 use Rattle.btf_cli.specs.declared.word.Word.TheVariants as words
-use Rattle.btf_cli.proofs.Told.{told, told_is, all_told}
+use Rattle.btf_cli.proofs.Asked.{setting_asked, asked_is, all_asked}
 
 -- ---- words in a row
 
@@ -44,23 +44,23 @@ texts_round words i word lt is =
 
 -- These words were read, with these ids.
 pub record HaveRead (words : List (List ℕ)) (ksyms placeholder : Option ℕ) : Type 0 where
-  pub set : SetAll words (map told words)
-  pub datasecs : filter_map ksyms_set (map told words) ≡ option_to_list ksyms
-  pub placeholders : filter_map placeholder_set (map told words) ≡ option_to_list placeholder
+  pub set : SetAll words (map setting_asked words)
+  pub datasecs : filter_map ksyms_set (map setting_asked words) ≡ option_to_list ksyms
+  pub placeholders : filter_map placeholder_set (map setting_asked words) ≡ option_to_list placeholder
 
-one_more : (id_set : Setting → Option ℕ) (words : List (List ℕ)) (word : List ℕ) (old new : Option ℕ) → filter_map id_set (map told words) ≡ option_to_list old → option_to_list old ++ filter_map id_set (told word ∷ []) ≡ option_to_list new
-    → filter_map id_set (map told (words ++ word ∷ [])) ≡ option_to_list new
+one_more : (id_set : Setting → Option ℕ) (words : List (List ℕ)) (word : List ℕ) (old new : Option ℕ) → filter_map id_set (map setting_asked words) ≡ option_to_list old → option_to_list old ++ filter_map id_set (setting_asked word ∷ []) ≡ option_to_list new
+    → filter_map id_set (map setting_asked (words ++ word ∷ [])) ≡ option_to_list new
 one_more id_set words word old new is more =
-    ap (filter_map id_set) (map-append told words (word ∷ [])) ∙ filter_map-append id_set (map told words) (told word ∷ []) ∙ ap (λ (ids : List ℕ). ids ++ filter_map id_set (told word ∷ [])) is ∙ more
+    ap (filter_map id_set) (map-append setting_asked words (word ∷ [])) ∙ filter_map-append id_set (map setting_asked words) (setting_asked word ∷ []) ∙ ap (λ (ids : List ℕ). ids ++ filter_map id_set (setting_asked word ∷ [])) is ∙ more
 
 -- one word more
 pub read_more : (words : List (List ℕ)) (word : List ℕ) (setting : Setting) (ksyms placeholder new_ksyms new_placeholder : Option ℕ) → HaveRead words ksyms placeholder → Sets word setting
     → option_to_list ksyms ++ filter_map ksyms_set (setting ∷ []) ≡ option_to_list new_ksyms → option_to_list placeholder ++ filter_map placeholder_set (setting ∷ []) ≡ option_to_list new_placeholder
     → HaveRead (words ++ word ∷ []) new_ksyms new_placeholder
 read_more words word setting ksyms placeholder new_ksyms new_placeholder read sets more_ksyms more_placeholder =
-    let is : told word ≡ setting = told_is word setting sets in
+    let is : setting_asked word ≡ setting = asked_is word setting sets in
     record {
-      set = subst (λ (settings : List Setting). SetAll (words ++ word ∷ []) settings) (sym (map-append told words (word ∷ []))) (set_more words (map told words) word (told word) read.set (subst (λ (s : Setting). Sets word s) (sym is) sets));
+      set = subst (λ (settings : List Setting). SetAll (words ++ word ∷ []) settings) (sym (map-append setting_asked words (word ∷ []))) (set_more words (map setting_asked words) word (setting_asked word) read.set (subst (λ (s : Setting). Sets word s) (sym is) sets));
       datasecs = one_more ksyms_set words word ksyms new_ksyms read.datasecs (ap (λ (s : Setting). option_to_list ksyms ++ filter_map ksyms_set (s ∷ [])) is ∙ more_ksyms);
       placeholders = one_more placeholder_set words word placeholder new_placeholder read.placeholders (ap (λ (s : Setting). option_to_list placeholder ++ filter_map placeholder_set (s ∷ [])) is ∙ more_placeholder);
     }
@@ -77,13 +77,13 @@ no_id id_set setting old new none kept =
 -- ---- invalid words
 
 -- the ids of all words, by the ids of the words before one, and its own
-ids_set : (id_set : Setting → Option ℕ) (front back : List (List ℕ)) (word : List ℕ) (setting : Setting) (settings : List Setting) (ids : List ℕ) → SetAll (front ++ word ∷ back) settings → filter_map id_set (map told front) ≡ ids → Sets word setting
-    → filter_map id_set settings ≡ ids ++ filter_map id_set (setting ∷ map told back)
+ids_set : (id_set : Setting → Option ℕ) (front back : List (List ℕ)) (word : List ℕ) (setting : Setting) (settings : List Setting) (ids : List ℕ) → SetAll (front ++ word ∷ back) settings → filter_map id_set (map setting_asked front) ≡ ids → Sets word setting
+    → filter_map id_set settings ≡ ids ++ filter_map id_set (setting ∷ map setting_asked back)
 ids_set id_set front back word setting settings ids all is sets =
-    ap (filter_map id_set) (all_told (front ++ word ∷ back) settings all ∙ map-append told front (word ∷ back))
-    ∙ filter_map-append id_set (map told front) (told word ∷ map told back)
-    ∙ ap (λ (before : List ℕ). before ++ filter_map id_set (told word ∷ map told back)) is
-    ∙ ap (λ (s : Setting). ids ++ filter_map id_set (s ∷ map told back)) (told_is word setting sets)
+    ap (filter_map id_set) (all_asked (front ++ word ∷ back) settings all ∙ map-append setting_asked front (word ∷ back))
+    ∙ filter_map-append id_set (map setting_asked front) (setting_asked word ∷ map setting_asked back)
+    ∙ ap (λ (before : List ℕ). before ++ filter_map id_set (setting_asked word ∷ map setting_asked back)) is
+    ∙ ap (λ (s : Setting). ids ++ filter_map id_set (s ∷ map setting_asked back)) (asked_is word setting sets)
 
 -- a second `ksyms`
 second_ksyms : (front back : List (List ℕ)) (word : List ℕ) (first : Option ℕ) (id : ℕ) (placeholder : Option ℕ) (settings : List Setting) (ids : Option KsymsIds) → HaveRead front first placeholder → (first ≡ None → ⊥) → Sets word (KsymsId id)
@@ -105,8 +105,8 @@ second_placeholder front back word None id ksyms settings ids read there sets al
 second_placeholder front back word (Some first) id ksyms settings None read there sets all is =
     let two = sym is.1 ∙ ids_set placeholder_set front back word (PlaceholderId id) settings (first ∷ []) all read.placeholders sets in cc
 second_placeholder front back word (Some first) id ksyms settings (Some ids) read there sets all is =
-    let two : option_to_list ids.placeholder_id ≡ first ∷ id ∷ filter_map placeholder_set (map told back) = sym is.1 ∙ ids_set placeholder_set front back word (PlaceholderId id) settings (first ∷ []) all read.placeholders sets in
-    one_at_most ids.placeholder_id first id (filter_map placeholder_set (map told back)) two
+    let two : option_to_list ids.placeholder_id ≡ first ∷ id ∷ filter_map placeholder_set (map setting_asked back) = sym is.1 ∙ ids_set placeholder_set front back word (PlaceholderId id) settings (first ∷ []) all read.placeholders sets in
+    one_at_most ids.placeholder_id first id (filter_map placeholder_set (map setting_asked back)) two
 
 -- A word among others, after the words before it were read.
 pub record IsMet (words : List (String Global)) (i : ℕ) (word : String Global) (text : List ℕ) (ksyms placeholder : Option ℕ) : Type 0 where
@@ -136,8 +136,8 @@ placeholder_again words i word text setting id ksyms placeholder met there sets 
 
 -- a placeholder alone
 alone : (words : List (List ℕ)) (id : ℕ) (settings : List Setting) (ids : Option KsymsIds) → HaveRead words None (Some id) → SetAll words settings → SetIds settings ids → ⊥
-alone words id settings None read all is = let one = sym is.1 ∙ ap (filter_map placeholder_set) (all_told words settings all) ∙ read.placeholders in cc
-alone words id settings (Some ids) read all is = let none = sym is.0 ∙ ap (filter_map ksyms_set) (all_told words settings all) ∙ read.datasecs in cc
+alone words id settings None read all is = let one = sym is.1 ∙ ap (filter_map placeholder_set) (all_asked words settings all) ∙ read.placeholders in cc
+alone words id settings (Some ids) read all is = let none = sym is.0 ∙ ap (filter_map ksyms_set) (all_asked words settings all) ∙ read.datasecs in cc
 
 pub placeholder_alone : (words : List (List ℕ)) (ksyms placeholder : Option ℕ) (id : ℕ) → ksyms ≡ None → placeholder ≡ Some id → (settings : List Setting) (ids : Option KsymsIds) → HaveRead words ksyms placeholder → SetAll words settings → SetIds settings ids → ⊥
 placeholder_alone words ksyms placeholder id none some settings ids read all is =
@@ -168,10 +168,10 @@ no_placeholder word other = refl
 
 -- the ids that were read
 pub some_ids : (texts_read : List (List ℕ)) (ksyms placeholder : Option ℕ) (datasec : ℕ) (ids : Option KsymsIds) → HaveRead texts_read ksyms placeholder → ksyms ≡ Some datasec → ids ≡ Some (record { datasec_id = datasec; placeholder_id = placeholder })
-    → SetIds (map told texts_read) ids
+    → SetIds (map setting_asked texts_read) ids
 some_ids texts_read ksyms placeholder datasec ids read some is =
-    subst (λ (o : Option KsymsIds). SetIds (map told texts_read) o) (sym is) (read.datasecs ∙ ap (λ (o : Option ℕ). option_to_list o) some, read.placeholders)
+    subst (λ (o : Option KsymsIds). SetIds (map setting_asked texts_read) o) (sym is) (read.datasecs ∙ ap (λ (o : Option ℕ). option_to_list o) some, read.placeholders)
 
-pub no_ids : (texts_read : List (List ℕ)) (ksyms placeholder : Option ℕ) (ids : Option KsymsIds) → HaveRead texts_read ksyms placeholder → ksyms ≡ None → placeholder ≡ None → ids ≡ None → SetIds (map told texts_read) ids
+pub no_ids : (texts_read : List (List ℕ)) (ksyms placeholder : Option ℕ) (ids : Option KsymsIds) → HaveRead texts_read ksyms placeholder → ksyms ≡ None → placeholder ≡ None → ids ≡ None → SetIds (map setting_asked texts_read) ids
 no_ids texts_read ksyms placeholder ids read none no_other is =
-    subst (λ (o : Option KsymsIds). SetIds (map told texts_read) o) (sym is) (read.datasecs ∙ ap (λ (o : Option ℕ). option_to_list o) none, read.placeholders ∙ ap (λ (o : Option ℕ). option_to_list o) no_other)
+    subst (λ (o : Option KsymsIds). SetIds (map setting_asked texts_read) o) (sym is) (read.datasecs ∙ ap (λ (o : Option ℕ). option_to_list o) none, read.placeholders ∙ ap (λ (o : Option ℕ). option_to_list o) no_other)

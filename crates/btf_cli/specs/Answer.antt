@@ -8,7 +8,7 @@ use Rattle.btf_model.specs.Walk.{HasSize}
 use Rattle.btf_model.specs.Fields.{Pair}
 use Rattle.btf_model.specs.Compat.{Plain, firsts}
 use Rattle.btf_rewrite_model.specs.Rewritten.{Rewritten, IsRefused}
-use Rattle.btf_compare.specs.Pairs.{pair}
+use Rattle.btf_compare.specs.Pairs.{id_pair}
 use Rattle.btf_model.specs.declared.endianness.Endianness.{Endianness}
 use Rattle.btf_cli.specs.Setting.{Setting}
 use Rattle.btf_cli.specs.Settings.{layout_set, kernel_set, policy_set}
@@ -23,16 +23,16 @@ use Rattle.btf_cli.specs.Listing.{listing, size_line, comparison_lines}
 -- The comparison of two types of a table returns this answer and this number of started pairs, or this error.
 abbrev pub Compares : Table → ℕ → ℕ → Result (Bool × ℕ) Refusal → Type 0
 Compares t id other (Ok found) =
-    (starts : List Pair) × Plain t t [] (pair id other) (Ok found.0) starts × (found.1 ≡ length (firsts starts))
-Compares t id other (Err refusal) = (starts : List Pair) × Plain t t [] (pair id other) (Err refusal) starts
+    (starts : List Pair) × Plain t t [] (id_pair id other) (Ok found.0) starts × (found.1 ≡ length (firsts starts))
+Compares t id other (Err refusal) = (starts : List Pair) × Plain t t [] (id_pair id other) (Err refusal) starts
 
 -- The rewrite of a table with the settings of a request returns this table or this error. The settings give the
 -- kernel's features, the policy, and the layout.
-abbrev pub Rewrites : Request → Table → Result Table Refusal → Type 0
-Rewrites request t (Ok new) =
+abbrev pub RewritesAsAsked : Request → Table → Result Table Refusal → Type 0
+RewritesAsAsked request t (Ok new) =
     (settings : List Setting) × AreSet request settings
     × Rewritten (policy_set settings) t (request_ids request) (layout_set settings) (kernel_set settings) new
-Rewrites request t (Err refusal) =
+RewritesAsAsked request t (Err refusal) =
     (settings : List Setting) × AreSet request settings
     × IsRefused (policy_set settings) t (request_ids request) (layout_set settings) (kernel_set settings) refusal
 
@@ -43,7 +43,7 @@ Writes (Ask Types) t written = written ≡ listing t
 Writes (Ask (Size id)) t written = (n : ℕ) × HasSize t.records id (Ok n) × (written ≡ size_line n)
 Writes (Ask (Compat id other)) t written =
     (b : Bool) × (n : ℕ) × Compares t id other (Ok (b, n)) × (written ≡ comparison_lines b n)
-Writes (Rewrite request) t written = (new : Table) × Rewrites request t (Ok new) × (written ≡ canon new)
+Writes (Rewrite request) t written = (new : Table) × RewritesAsAsked request t (Ok new) × (written ≡ canon new)
 
 -- the error of a command on a table
 abbrev pub Declines : Command → Table → Refusal → Type 0
@@ -51,7 +51,7 @@ Declines (Ask Copy) t refusal = ⊥
 Declines (Ask Types) t refusal = ⊥
 Declines (Ask (Size id)) t refusal = HasSize t.records id (Err refusal)
 Declines (Ask (Compat id other)) t refusal = Compares t id other (Err refusal)
-Declines (Rewrite request) t refusal = Rewrites request t (Err refusal)
+Declines (Rewrite request) t refusal = RewritesAsAsked request t (Err refusal)
 
 -- the command line of a rewrite
 abbrev pub rewriting : Endianness → Request → Line

@@ -14,5 +14,5 @@ Takes contents old bytes new =
     × Appends (buffered_contents contents old) (buffered_contents contents new) bytes
 
 -- The buffer has room for these bytes.
-abbrev pub HasRoom : {W : Type 0} → Buffered W → List ℕ → Type 0
-HasRoom b bytes = length b.pending.bytes + length bytes ≤ 8192
+abbrev pub HasBufferRoom : {W : Type 0} → Buffered W → List ℕ → Type 0
+HasBufferRoom b bytes = length b.pending.bytes + length bytes ≤ 8192

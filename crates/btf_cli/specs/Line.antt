@@ -37,5 +37,5 @@ Asks words line =
     × AsksCommand rest line.command
 
 -- some words are this command line
-abbrev pub IsAsked : Line → Type 0
-IsAsked line = (words : List (String Global)) × Asks words line
+abbrev pub IsCommandLine : Line → Type 0
+IsCommandLine line = (words : List (String Global)) × Asks words line

@@ -25,8 +25,8 @@ abbrev pub has_word : Request → List ℕ → Bool
 has_word request text = list_any (λ (word : String Global). bytes_eq (string_bytes word) text) request.words.now
 
 -- whether a request contains the word of this feature
-abbrev pub names : Request → BtfFeature → Bool
-names request f = has_word request (feature_name f)
+abbrev pub asks_feature : Request → BtfFeature → Bool
+asks_feature request f = has_word request (feature_name f)
 
 -- the policy of a request: sized DATASECs are filled if the request contains the word for it
 abbrev pub policy_named : Request → FillPolicy

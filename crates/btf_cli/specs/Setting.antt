@@ -11,16 +11,16 @@ abbrev pub texts : List (String Global) → List (List ℕ)
 texts words = map string_bytes words
 
 -- one or more decimal digits, and their number, which has this many bits
-abbrev pub IsNumber : ℕ → List ℕ → ℕ → Type 0
-IsNumber bits text n = IsNumeral 10 text × (digits_value 10 text ≡ n) × (n < 2 ^ bits)
+abbrev pub IsDecimal : ℕ → List ℕ → ℕ → Type 0
+IsDecimal bits text n = IsNumeral 10 text × (digits_value 10 text ≡ n) × (n < 2 ^ bits)
 
 -- a text, and the id that it names
 abbrev pub IsId : List ℕ → ℕ → Type 0
-IsId text id = IsNumber 32 text id
+IsId text id = IsDecimal 32 text id
 
 -- A name and a number with `=` between them. Because the number consists of digits, the name ends at the last `=`.
-abbrev pub IsNamed : List ℕ → List ℕ → ℕ → Type 0
-IsNamed text name n = (digits : List ℕ) × (text ≡ name ++ codes "=" ++ digits) × IsNumber 64 digits n
+abbrev pub IsNamedNumber : List ℕ → List ℕ → ℕ → Type 0
+IsNamedNumber text name n = (digits : List ℕ) × (text ≡ name ++ codes "=" ++ digits) × IsDecimal 64 digits n
 
 -- the word for filling DATASECs that have a size
 abbrev pub fill_word : List ℕ
@@ -45,7 +45,7 @@ pub data Setting : Type 0 where
 abbrev pub Sets : List ℕ → Setting → Type 0
 Sets word (Grants feature) = word ≡ feature_name feature
 Sets word FillsSized = word ≡ fill_word
-Sets word (SectionSize name size) = (text : List ℕ) × (word ≡ codes "section:" ++ text) × IsNamed text name size
-Sets word (SymbolOffset name offset) = (text : List ℕ) × (word ≡ codes "symbol:" ++ text) × IsNamed text name offset
+Sets word (SectionSize name size) = (text : List ℕ) × (word ≡ codes "section:" ++ text) × IsNamedNumber text name size
+Sets word (SymbolOffset name offset) = (text : List ℕ) × (word ≡ codes "symbol:" ++ text) × IsNamedNumber text name offset
 Sets word (KsymsId id) = (text : List ℕ) × (word ≡ codes "ksyms:" ++ text) × IsId text id
 Sets word (PlaceholderId id) = (text : List ℕ) × (word ≡ codes "placeholder:" ++ text) × IsId text id

@@ -2,7 +2,7 @@
 
 ghost use Rattle.std.specs.Prelude.{◌≡◌, [], ◌++◌, IsOk, OnOk};
 ghost use Rattle.std.specs.Io.KnownBytes.{Appends, Keeps};
-ghost use Rattle.btf_cli.specs.Buffered.{buffered_contents, Takes, HasRoom};
+ghost use Rattle.btf_cli.specs.Buffered.{buffered_contents, Takes, HasBufferRoom};
 
 use arrayvec::ArrayString;
 use std::fmt;
@@ -36,7 +36,7 @@ impl<'a, W: Write> Buffered<'a, W> {
     pub fn put(&mut self, text: &str) -> fmt::Result
         ensures taken { OnOk result (Takes W.contents self.old text.now self.new) }
         // If there is room, the writer is not called, so nothing fails.
-        ensures room { HasRoom self.old text.now → IsOk result
+        ensures room { HasBufferRoom self.old text.now → IsOk result
             × (self.new.pending.bytes ≡ self.old.pending.bytes ++ text.now) }
     {
         if self.pending.try_push_str(text).is_ok() {

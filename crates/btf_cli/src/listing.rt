@@ -5,7 +5,7 @@ ghost use Rattle.std.specs.Io.KnownBytes.{Appends};
 ghost use Rattle.btf_model.specs.Text.{lossy, text_at};
 ghost use Rattle.btf_plain.specs.Error.{IsOrNoMemory};
 ghost use Rattle.btf_records.specs.BtfType.{record_of};
-ghost use Rattle.btf_cli.specs.Buffered.{Takes, HasRoom};
+ghost use Rattle.btf_cli.specs.Buffered.{Takes, HasBufferRoom};
 ghost use Rattle.btf_cli.specs.Listing.{name_part, type_line, lines_from};
 ghost use Rattle.btf_cli.specs.Listing as spec;
 
@@ -20,7 +20,7 @@ use std::{fmt, io};
 /// Writes the text of bytes: U+FFFD replaces each longest piece that is not UTF-8.
 fn write_lossy<W: io::Write>(lines: &mut Buffered<'_, W>, bytes: &[u8]) -> fmt::Result
     ensures taken { OnOk result (Takes W.contents lines.old (lossy bytes.now) lines.new) }
-    ensures room { HasRoom lines.old (lossy bytes.now) → IsOk result }
+    ensures room { HasBufferRoom lines.old (lossy bytes.now) → IsOk result }
 {
     for chunk in bytes.utf8_chunks() {
         lines.put(chunk.valid())?;
@@ -41,7 +41,7 @@ fn write_name<W: io::Write>(
     ensures taken { OnOk result (Takes W.contents lines.old
         (name_part (text_at table.now.strings (record_of btf_type.now).name)) lines.new) }
     // If there is room, nothing fails, so a name that can't be read is no error.
-    ensures room { HasRoom lines.old
+    ensures room { HasBufferRoom lines.old
         (name_part (text_at table.now.strings (record_of btf_type.now).name)) → IsOk result }
 {
     let bytes = name_bytes(table, btf_type).unwrap_or(&[]);

@@ -8,7 +8,7 @@ ghost use Rattle.btf_cli.specs.declared.line.Command.TheVariants.{Ask};
 ghost use Rattle.btf_cli.specs.declared.line.Line.{Line};
 ghost use Rattle.btf_cli.specs.declared.fault.Fault.TheVariants as faults;
 ghost use Rattle.btf_cli.specs.Fault.{fault_refusal};
-ghost use Rattle.btf_cli.specs.Line.{Asks, IsAsked};
+ghost use Rattle.btf_cli.specs.Line.{Asks, IsCommandLine};
 ghost use Rattle.btf_cli.specs.Answer.{Writes, Declines, IsAnswer, IsDeclined, IsWritten};
 ghost use Rattle.btf_cli.specs.Output.{output_bytes};
 
@@ -42,7 +42,7 @@ fn read_input<R: Read>(alloc: Global, input: &mut R) -> Result<Vec<u8>, Fault>
 /// The output of a query of a table.
 fn asked(alloc: Global, query: Query, table: Btf) -> Result<Output, BtfError>
     ensures made { IfOk result (λ output. Writes (Ask query) table (output_bytes output)) }
-    ensures told { IfErr result (λ e. IfSome (refusal_of e) (Declines (Ask query) table)) }
+    ensures reported { IfErr result (λ e. IfSome (refusal_of e) (Declines (Ask query) table)) }
 {
     match query {
         Query::Copy => Ok(Output::Bytes(table.to_bytes()?)),
@@ -60,11 +60,11 @@ fn asked(alloc: Global, query: Query, table: Btf) -> Result<Output, BtfError>
 
 /// The output of a command on a blob.
 fn answer(alloc: Global, line: Line, blob: &[u8]) -> Result<Output, BtfError>
-    requires { IsAsked line }
+    requires { IsCommandLine line }
     ensures made { IfOk result (λ output. IsAnswer line.entry blob.now (output_bytes output)) }
     ensures refused { (f : Refusal) → IsDeclined line.entry blob.now f → IsErr result }
     // An error of the table has this cause.
-    ensures told { IfErr result (λ e. IfSome (refusal_of e) (IsDeclined line.entry blob.now)) }
+    ensures reported { IfErr result (λ e. IfSome (refusal_of e) (IsDeclined line.entry blob.now)) }
 {
     match line.command {
         Command::Ask(query) => {
@@ -85,14 +85,14 @@ fn carry_out<R: Read, W: Write>(
     input: &mut R,
     out: &mut W,
 ) -> Result<(), Fault>
-    requires { IsAsked line }
+    requires { IsCommandLine line }
     ensures written { OnOk result (IfSome (R.remaining input.old) (λ bytes.
         IsWritten (W.contents out.old) (W.contents out.new) line.entry bytes)) }
     ensures refused { (bytes : List ℕ) (f : Refusal) → R.remaining input.old ≡ Some bytes
         → IsDeclined line.entry bytes f
         → IsErr result × Keeps (W.contents out.old) (W.contents out.new) }
     // An error of the table has this cause.
-    ensures told { IfErr result (λ fault. IfSome (R.remaining input.old) (λ bytes.
+    ensures reported { IfErr result (λ fault. IfSome (R.remaining input.old) (λ bytes.
         IfSome (fault_refusal fault) (IsDeclined line.entry bytes))) }
     // The table's errors are found before the first byte is written.
     ensures untouched { IfErr result (λ fault. fault ≢ faults.Write

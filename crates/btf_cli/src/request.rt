@@ -28,7 +28,7 @@ fn store_id(place: &mut Option<u32>, id: u32) -> Option<()>
 impl<'a> Request<'a> {
     ghost use Rattle.std.specs.Prelude.{◌≡◌, IfSome, IfNone};
     ghost use Rattle.btf_cli.specs.Setting.{texts};
-    ghost use Rattle.btf_cli.specs.Request.{has_word, names, policy_named, Requests};
+    ghost use Rattle.btf_cli.specs.Request.{has_word, asks_feature, policy_named, Requests};
     ghost use Rattle.btf_cli.specs.declared.request.Request.{Request};
 
     /// The request in these words, or None if they are no valid request.
@@ -66,7 +66,7 @@ impl<'a> Request<'a> {
 
     /// Whether one of the words grants a feature.
     pub fn grants(&self, feature: BtfFeature) -> bool
-        ensures { result ≡ names self.now feature }
+        ensures { result ≡ asks_feature self.now feature }
     {
         self.has(feature_name(feature))
     }

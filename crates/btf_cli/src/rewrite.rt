@@ -4,7 +4,7 @@ ghost use Rattle.std.specs.Prelude.{◌≡◌, ℕ, List, IfOk, IfErr, IfSome, I
 ghost use Rattle.btf_plain.specs.Error.{refusal_of};
 ghost use Rattle.btf_table.specs.Layout.{sizes_of, offsets_of};
 ghost use Rattle.btf_cli.specs.Answer.{rewriting, IsAnswer, IsDeclined};
-ghost use Rattle.btf_cli.specs.Request.{AreSet, names};
+ghost use Rattle.btf_cli.specs.Request.{AreSet, asks_feature};
 ghost use Rattle.btf_cli.specs.Setting.{Setting, SectionSize, SymbolOffset, Sets, texts};
 ghost use Rattle.btf_cli.specs.Settings.{SetAll, last_set, size_set, offset_set};
 
@@ -80,13 +80,13 @@ pub fn rewritten(
     requires { (settings : List Setting) × AreSet request settings }
     ensures made { IfOk result (λ v. IsAnswer
         (rewriting endianness request.entry) blob.now v.items) }
-    ensures told { IfErr result (λ e. IfSome (refusal_of e)
+    ensures reported { IfErr result (λ e. IfSome (refusal_of e)
         (IsDeclined (rewriting endianness request.entry) blob.now)) }
 {
     let sections = sections(alloc, request.words)?;
     let symbols = symbols(alloc, request.words)?;
     let is_granted = |feature: BtfFeature| -> bool
-        ensures { result ≡ names request.entry feature }
+        ensures { result ≡ asks_feature request.entry feature }
     { request.grants(feature) };
     let mut resolver = BtfFeatureResolver::new(is_granted);
     let (bytes, _) = rewrite_bytes_with(

@@ -1,7 +1,7 @@
 //! The words of a rewrite.
 
 ghost use Rattle.std.specs.Prelude.{ℕ, List, IfSome, IfNone};
-ghost use Rattle.btf_cli.specs.Setting.{IsNamed};
+ghost use Rattle.btf_cli.specs.Setting.{IsNamedNumber};
 
 use crate::number::{read_id, read_number};
 use btf_rewrite_model::{BtfFeature, feature_named};
@@ -28,8 +28,8 @@ pub enum Word<'a> {
 
 /// The name before the last `=` of a text, and the number after it.
 fn read_named(text: &str) -> Option<(&str, u64)>
-    ensures some { IfSome result (λ named. IsNamed text.now named.0.now named.1) }
-    ensures none { IfNone result ((name : List ℕ) (n : ℕ) → IsNamed text.now name n → ⊥) }
+    ensures some { IfSome result (λ named. IsNamedNumber text.now named.0.now named.1) }
+    ensures none { IfNone result ((name : List ℕ) (n : ℕ) → IsNamedNumber text.now name n → ⊥) }
 {
     let (name, number) = text.rsplit_once('=')?;
     Some((name, read_number(number)?))

@@ -6,7 +6,7 @@ use Rattle.std.proofs.lemmas.Nat.{and_mask, pow_pos}
 use Rattle.std.proofs.Math.Nat.{mod-lt, mod-eq_of_lt, add-mod_left, pow-suc}
 use Rattle.std.proofs.Math.Pow.{mod-mod-pow}
 use Rattle.btf_compare.specs.Buckets.{bucket_of, is_numbered, spread}
-use Rattle.btf_compare.specs.PairTable.{capacity, load}
+use Rattle.btf_compare.specs.PairTable.{capacity, bucket_load}
 
 -- the masked hash, with one bit less if there is no such bucket
 abbrev pick : ℕ → ℕ → ℕ → ℕ
@@ -118,10 +118,10 @@ pub few_buckets : (buckets : ℕ) → buckets ≤ 3 → capacity buckets ≡ 15 
 unfolding capacity
 few_buckets buckets le =
     elim (cases_lt buckets 3) [
-      | inl lt ↦ ap (λ (few : Bool). if few then 15 + buckets else load * buckets) (lt-ltb buckets 3 lt)
-      | inr ge ↦ ap (λ (few : Bool). if few then 15 + buckets else load * buckets) (le-ltb buckets 3 ge) ∙ omega (arith, le, ge)
+      | inl lt ↦ ap (λ (few : Bool). if few then 15 + buckets else bucket_load * buckets) (lt-ltb buckets 3 lt)
+      | inr ge ↦ ap (λ (few : Bool). if few then 15 + buckets else bucket_load * buckets) (le-ltb buckets 3 ge) ∙ omega (arith, le, ge)
     ]
 
-pub more_buckets : (buckets : ℕ) → 3 ≤ buckets → capacity buckets ≡ load * buckets
+pub more_buckets : (buckets : ℕ) → 3 ≤ buckets → capacity buckets ≡ bucket_load * buckets
 unfolding capacity
-more_buckets buckets ge = ap (λ (few : Bool). if few then 15 + buckets else load * buckets) (le-ltb buckets 3 ge)
+more_buckets buckets ge = ap (λ (few : Bool). if few then 15 + buckets else bucket_load * buckets) (le-ltb buckets 3 ge)

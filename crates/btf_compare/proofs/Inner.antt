@@ -14,7 +14,7 @@ use Rattle.btf_plain.specs.declared.error.BtfError.TheVariants as errors
 use Rattle.btf_compare.specs.declared.frame.Frame.{Frame}
 use Rattle.btf_compare.specs.declared.entries.Progress.TheVariants.{Open, Compatible}
 use Rattle.btf_compare.specs.declared.pair_map.PairMap.{PairMap}
-use Rattle.btf_compare.specs.PairMap.{known, count, Learns}
+use Rattle.btf_compare.specs.PairMap.{known_progress, count, Learns}
 use Rattle.btf_compare.specs.Compared.{WalksTo, ComesTo, IsStarted, frame_of, is_progress_open, is_progress_compatible, opened_in, compatible_in, passed_in}
 use Rattle.btf_compare.specs.Pairs.{pair_of}
 use Rattle.btf_compare.proofs.Comparing.{PairSet, Changes, IsRunning, Compares, ReportsOneMore, stack_of, stack_push, no_memory, ends_refused, ends_false, starts, settles, still_in, less_by_start}
@@ -31,7 +31,7 @@ pub record Above (local target : Table) (root : Pair) (seen : PairMap) (passed :
   pub state : Running local target root seen below top IsReported
   pub are : PassedIn local target seen passed
   pub next : IsNext local target (frame_of top) (runs.Waits (pair_of ids) (frame_of g))
-  pub unknown : known seen ids ≡ None
+  pub unknown : known_progress seen ids ≡ None
   pub begins : IsStarted local target (pair_of ids) true
   pub tells : ReportsOneMore IsReported IsReportedNow ids
   pub new : frame_of f ≡ new_frame (pair_of ids)

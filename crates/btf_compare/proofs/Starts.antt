@@ -7,7 +7,7 @@ use Rattle.btf_model.specs.Refusal.{Refusal}
 use Rattle.btf_model.specs.Table.{Table}
 use Rattle.btf_model.specs.Fields.{Pair}
 use Rattle.btf_model.specs.Compat.{Plain, pair_eq, firsts}
-use Rattle.btf_model.specs.Laws.{AreIds}
+use Rattle.btf_model.specs.Laws.{AreIdsOfPair}
 use Rattle.btf_model.proofs.KnownStarts.{plain_known, firsts_distinct, firsts_few, all_known}
 use Rattle.btf_model.proofs.RunStates.{among_of_firsts}
 use Rattle.btf_plain.specs.declared.error.BtfError.{BtfError}
@@ -29,7 +29,7 @@ known_front P ps qs all k d lt = subst P (get_or_append_left ps qs d k lt) (all 
 
 starts_front : (local target : Table) (ps front rest : List Pair) → ps ≡ front ++ rest → AreStarts local target ps → AreStarts local target front
 starts_front local target ps front rest is starts = record {
-  known = known_front (AreIds local target) front rest (subst (All (AreIds local target)) is starts.known);
+  known = known_front (AreIdsOfPair local target) front rest (subst (All (AreIdsOfPair local target)) is starts.known);
   once = distinct_front front rest (subst (IsDistinct pair_eq) is starts.once);
   few = omega (arith, starts.few, ap length is, length-append front rest);
 }

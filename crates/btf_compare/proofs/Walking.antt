@@ -14,7 +14,7 @@ use Rattle.btf_compare.specs.declared.frame.Place.TheVariants as places
 use Rattle.btf_compare.specs.declared.position.ProtoPair.{ProtoPair}
 use Rattle.btf_compare.specs.declared.entries.Progress.TheVariants.{Open, Compatible}
 use Rattle.btf_compare.specs.declared.pair_map.PairMap.{PairMap}
-use Rattle.btf_compare.specs.PairMap.{known, count, Learns}
+use Rattle.btf_compare.specs.PairMap.{known_progress, count, Learns}
 use Rattle.btf_compare.specs.Compared.{WalksTo, ComesTo, NextParameterIs, AreAt, GainsOnly, IsStarted, frame_of, pending_of, is_progress_open, is_progress_compatible, opened_in, compatible_in, passed_in}
 use Rattle.btf_compare.specs.Pairs.{pair_of, ids_of}
 use Rattle.btf_compare.proofs.Comparing.{PairSet, IsRunning, Compares, stack_of, stack_push, root_started, ends_refused, goes_on, starts, settles, still_in}
@@ -72,7 +72,7 @@ lower a b c lt more = omega (arith, lt, more)
 
 -- ---- its beginning
 
-module _ (local target : Table) (ids : ℕ × ℕ) (empty seen : PairMap) (is_empty : (q : ℕ × ℕ) → known empty q ≡ None) (learns : Learns empty seen ids Open) where
+module _ (local target : Table) (ids : ℕ × ℕ) (empty seen : PairMap) (is_empty : (q : ℕ × ℕ) → known_progress empty q ≡ None) (learns : Learns empty seen ids Open) where
   none_settled : (q : Pair) → compatible_in seen q ≡ false
   none_settled q = ap (λ (f : Pair → Bool). f q) (learned_nothing empty seen ids Open learns is_progress_compatible (ap is_progress_compatible (is_empty ids))) ∙ ap is_progress_compatible (is_empty (ids_of q))
 

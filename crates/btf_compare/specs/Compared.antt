@@ -14,7 +14,7 @@ use Rattle.btf_model.specs.Walk.{walk_limit}
 use Rattle.btf_model.specs.Fields.{Pair}
 use Rattle.btf_model.specs.Compat.{Decided, On, Pending, Plain, firsts, pairs, Finds, ResolvesPair, AreKnown, pair_eq}
 use Rattle.btf_model.specs.Compat as model
-use Rattle.btf_model.specs.Laws.{AreIds}
+use Rattle.btf_model.specs.Laws.{AreIdsOfPair}
 use Rattle.btf_model.specs.Run as runs
 use Rattle.btf_model.specs.Run.{new_frame, IsNext}
 use Rattle.btf_model.specs.Run.{Begins}
@@ -25,7 +25,7 @@ use Rattle.btf_plain.specs.declared.items.BtfParam.{BtfParam}
 use Rattle.btf_compare.specs.declared.pair_map.PairMap.{PairMap}
 use Rattle.btf_compare.specs.declared.entries.Progress.{Progress}
 use Rattle.btf_compare.specs.declared.entries.Progress.TheVariants as progresses
-use Rattle.btf_compare.specs.PairMap.{known}
+use Rattle.btf_compare.specs.PairMap.{known_progress}
 use Rattle.btf_compare.specs.Entries.{ids_cmp}
 use Rattle.btf_compare.specs.declared.position.Position.{Position}
 use Rattle.btf_compare.specs.declared.position.Position.TheVariants as positions
@@ -136,8 +136,8 @@ NextParameterIs local target f g found (Ok None) = (length (pending_of found) �
 NextParameterIs local target f g found (Err e) = Meets (λ b. b) (Err e) (λ a. IsNext local target (frame_of f) (runs.Ends a))
 
 -- the set gains the ids of the prototypes if these are long, and nothing else
-abbrev pub Passes : BTreeSet (ℕ × ℕ) → BTreeSet (ℕ × ℕ) → ProtoPair → Type 0
-Passes old new found = (p : Pair)
+abbrev pub NotesPrototypes : BTreeSet (ℕ × ℕ) → BTreeSet (ℕ × ℕ) → ProtoPair → Type 0
+NotesPrototypes old new found = (p : Pair)
     → passed_in new p ≡ cond (are_long found) (cond (pair_eq (pair_of found.ids) p) true (passed_in old p)) (passed_in old p)
 
 -- the set gains these ids at most
@@ -161,17 +161,17 @@ progress_of end = progresses.Open
 
 -- whether the pair is open in the map
 abbrev pub opened_in : PairMap → Pair → Bool
-opened_in seen p = is_progress_open (known seen (ids_of p))
+opened_in seen p = is_progress_open (known_progress seen (ids_of p))
 
 -- whether the pair is known to be compatible in the map
 abbrev pub compatible_in : PairMap → Pair → Bool
-compatible_in seen p = is_progress_compatible (known seen (ids_of p))
+compatible_in seen p = is_progress_compatible (known_progress seen (ids_of p))
 
 -- whether a pair with this local id and this progress is known to be compatible; an open pair is an error
-abbrev pub compatible_by : ℕ → Option Progress → Result Bool BtfError
-compatible_by id (Some progresses.Open) = Err (errors.MaximumTypeDepthReached id)
-compatible_by id (Some progresses.Compatible) = Ok true
-compatible_by id None = Ok false
+abbrev pub progress_compatible : ℕ → Option Progress → Result Bool BtfError
+progress_compatible id (Some progresses.Open) = Err (errors.MaximumTypeDepthReached id)
+progress_compatible id (Some progresses.Compatible) = Ok true
+progress_compatible id None = Ok false
 
 -- A started pair has known ids. Its walk begins if this is true; otherwise its kinds differ.
 abbrev pub IsStarted : Table → Table → Pair → Bool → Type 0
@@ -224,7 +224,7 @@ ComparesTraced local target ids result old new =
 
 -- Pairs of known ids, each of them once. So their number is at most the product of the two numbers of types.
 pub record AreStarts (local target : Table) (ps : List Pair) : Type 0 where
-  pub known : All (AreIds local target) ps
+  pub known : All (AreIdsOfPair local target) ps
   pub once : IsDistinct pair_eq ps
   pub few : length ps ≤ length local.records * length target.records
 

@@ -7,17 +7,17 @@ use Rattle.btf_compare.specs.declared.pair_table.Bucket.{Bucket}
 use Rattle.btf_compare.specs.declared.entries.Progress.{Progress}
 
 -- the mean number of pairs per bucket at which the table grows by a bucket
-abbrev pub load : ℕ
-load = 6
+abbrev pub bucket_load : ℕ
+bucket_load = 6
 
 -- The number of pairs that this number of buckets takes before the table grows: 16 for one bucket, 17 for two, and
 -- `load` per bucket from three buckets on.
 unfoldable pub capacity : ℕ → ℕ
-capacity buckets = if ltb buckets 3 then 15 + buckets else load * buckets
+capacity buckets = if ltb buckets 3 then 15 + buckets else bucket_load * buckets
 
 -- The contents of a table: the entries of each bucket, whether each bucket has overflowed, the mask that gives the
 -- index of a pair's bucket, and the entries whose buckets were full.
-pub record Layout (V : Type 0) : Type 0 where
+pub record BucketLayout (V : Type 0) : Type 0 where
   pub rows : List (List ((ℕ × ℕ) × V))
   pub marks : List Bool
   pub mask : ℕ
@@ -32,7 +32,7 @@ abbrev pub mark_of : Bucket → Bool
 mark_of bucket = bucket.overflows
 
 -- the layout of these buckets, this mask, and the pairs whose buckets were full
-abbrev pub layout : List Bucket → ℕ → List ((ℕ × ℕ) × Progress) → Layout Progress
+abbrev pub layout : List Bucket → ℕ → List ((ℕ × ℕ) × Progress) → BucketLayout Progress
 layout buckets mask further = record {
   rows = map entries_of buckets;
   marks = map mark_of buckets;
@@ -47,11 +47,11 @@ module _ {V : Type 0} where
       → values_in (if is_numbered mask number ids then go else stay) ids ≡ values_in all ids
 
   -- the index of a pair's bucket
-  abbrev pub place_in : Layout V → ℕ × ℕ → ℕ
+  abbrev pub place_in : BucketLayout V → ℕ × ℕ → ℕ
   place_in t ids = bucket_of t.mask (length t.rows) ids
 
   -- the value of a pair: in its bucket, or in the ordered map
-  abbrev pub value_of : Layout V → ℕ × ℕ → Option V
+  abbrev pub value_of : BucketLayout V → ℕ × ℕ → Option V
   value_of t ids = option_or (values_in (get_or t.rows (place_in t ids) []) ids) (values_in t.further ids)
 
   -- the number of entries of these buckets
@@ -60,20 +60,20 @@ module _ {V : Type 0} where
   held (row ∷ rows) = length row + held rows
 
   -- the number of entries of the table
-  abbrev pub count_in : Layout V → ℕ
+  abbrev pub count_in : BucketLayout V → ℕ
   count_in t = held t.rows + length t.further
 
   -- The buckets take `left` more pairs before the table grows.
-  abbrev pub TakesMore : Layout V → ℕ → Type 0
+  abbrev pub TakesMore : BucketLayout V → ℕ → Type 0
   TakesMore t left = held t.rows + left ≡ capacity (length t.rows)
 
   -- The buckets take at least one more pair before the table grows.
-  abbrev pub HasRoom : Layout V → Type 0
+  abbrev pub HasRoom : BucketLayout V → Type 0
   HasRoom t = held t.rows < capacity (length t.rows)
 
   -- The mask covers the index of each bucket, and without its highest bit it is the index of a bucket. The ordered map
   -- has an entry only if the entry's bucket has overflowed.
-  pub record IsPairTable (t : Layout V) : Type 0 where
+  pub record IsPairTable (t : BucketLayout V) : Type 0 where
     pub bits : ℕ
     pub ones : t.mask ≡ 2 ^ suc bits - 1
     pub least : 2 ^ bits ≤ length t.rows

@@ -7,12 +7,12 @@ use Rattle.btf_model.specs.Walk.{Resolves}
 use Rattle.btf_model.specs.Fields.{Pair, IsAt}
 
 -- the pair of a local id and a target id
-abbrev pub pair : ℕ → ℕ → Pair
-pair id other = record { local = id; target = other }
+abbrev pub id_pair : ℕ → ℕ → Pair
+id_pair id other = record { local = id; target = other }
 
 -- two ids, the local one first, as a pair
 abbrev pub pair_of : ℕ × ℕ → Pair
-pair_of ids = pair ids.0 ids.1
+pair_of ids = id_pair ids.0 ids.1
 
 -- a pair as two ids, the local one first
 abbrev pub ids_of : Pair → ℕ × ℕ

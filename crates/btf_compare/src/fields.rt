@@ -5,8 +5,8 @@ ghost use Rattle.btf_model.specs.Fields.{Fields, FieldsFind, FieldsFound, field_
 ghost use Rattle.btf_model.specs.Text.{text_at};
 ghost use Rattle.btf_plain.specs.Error.{MeetsOrNoMemory};
 ghost use Rattle.btf_records.specs.BtfType.{record_of, type_kind};
-ghost use Rattle.btf_compare.specs.FieldStep.{StepIs};
-ghost use Rattle.btf_compare.specs.Pairs.{pair};
+ghost use Rattle.btf_compare.specs.FieldStep.{FieldStepIs};
+ghost use Rattle.btf_compare.specs.Pairs.{id_pair};
 
 use crate::position::resolved;
 use bstr::ByteSlice;
@@ -60,7 +60,7 @@ pub fn fields_are_compatible(
 
 /// Compares two ids, after modifiers.
 fn step_at(local: &Btf, local_id: u32, target: &Btf, target_id: u32) -> FieldStep
-    ensures { StepIs result (FieldsFind local.now target.now (pair local_id target_id)) }
+    ensures { FieldStepIs result (FieldsFind local.now target.now (id_pair local_id target_id)) }
 {
     let (local_at, local_type) = match resolved(local, local_id) {
         Ok(found) => found,
@@ -80,7 +80,8 @@ fn step_of(
     target: &Btf,
     target_type: &BtfType,
 ) -> FieldStep
-    ensures { StepIs result (FieldsFound local.now target.now local_id (type_kind local_type.now)
+    ensures { FieldStepIs result
+        (FieldsFound local.now target.now local_id (type_kind local_type.now)
         (type_kind target_type.now) (record_of local_type.now) (record_of target_type.now)) }
 {
     if local_type.is_composite() && target_type.is_composite() {
@@ -100,7 +101,7 @@ fn by_kind(
     target: &Btf,
     target_type: &BtfType,
 ) -> FieldStep
-    ensures { StepIs result (λ found. found ≡ field_by local.now target.now local_id
+    ensures { FieldStepIs result (λ found. found ≡ field_by local.now target.now local_id
         (type_kind local_type.now) (type_kind target_type.now) (record_of local_type.now)
         (record_of target_type.now)) }
 {

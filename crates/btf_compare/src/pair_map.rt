@@ -1,7 +1,7 @@
 //! A map from pairs of ids to their progress, and what a run has recorded about the pairs that it has started.
 
 ghost use Rattle.std.specs.Prelude.{◌≡◌, ℕ, ◌+◌, None, IsSome, OnOk};
-ghost use Rattle.btf_compare.specs.PairMap.{known, count, Learns};
+ghost use Rattle.btf_compare.specs.PairMap.{known_progress, count, Learns};
 
 use crate::entries::{Entries, Progress};
 use crate::pair_table::{PairTable, ROOM};
@@ -20,7 +20,7 @@ pub struct PairMap {
 impl PairMap {
     /// An empty map.
     pub fn new(alloc: Global) -> Self
-        ensures empty { (ids : ℕ × ℕ) → known result ids ≡ None }
+        ensures empty { (ids : ℕ × ℕ) → known_progress result ids ≡ None }
         ensures counts { count result ≡ 0 }
     {
         PairMap {
@@ -33,7 +33,7 @@ impl PairMap {
     /// The progress of a pair.
     #[inline(always)]
     pub fn get(&self, pair: (u32, u32)) -> Option<Progress>
-        ensures { result ≡ known self.now pair }
+        ensures { result ≡ known_progress self.now pair }
     {
         match &self.many {
             Some(table) => table.get(pair),
@@ -44,7 +44,7 @@ impl PairMap {
     /// Adds a pair that is not in the map, with its progress.
     #[inline(always)]
     pub fn insert(&mut self, pair: (u32, u32), progress: Progress) -> Result<(), AllocError>
-        requires { known self.old pair ≡ None }
+        requires { known_progress self.old pair ≡ None }
         ensures learns { OnOk result (Learns self.old self.new pair progress) }
         ensures counts { OnOk result (count self.new ≡ count self.old + 1) }
     {
@@ -59,7 +59,7 @@ impl PairMap {
     /// it, and a function clears its whole stack frame on entry.
     #[inline(never)]
     fn insert_in_table(&mut self, pair: (u32, u32), progress: Progress) -> Result<(), AllocError>
-        requires { known self.old pair ≡ None }
+        requires { known_progress self.old pair ≡ None }
         ensures learns { OnOk result (Learns self.old self.new pair progress) }
         ensures counts { OnOk result (count self.new ≡ count self.old + 1) }
     {
@@ -76,7 +76,7 @@ impl PairMap {
     /// Changes the progress of a pair in the map, without an allocation.
     #[inline(always)]
     pub fn update(&mut self, pair: (u32, u32), progress: Progress)
-        requires { IsSome (known self.old pair) }
+        requires { IsSome (known_progress self.old pair) }
         ensures learns { Learns self.old self.new pair progress }
         ensures counts { count self.new ≡ count self.old }
     {
@@ -109,9 +109,9 @@ pub trait Listed {
 /// The map of a run.
 impl Listed for PairMap {
     ghost use Rattle.std.specs.Prelude.{◌≡◌, ◌+◌};
-    ghost use Rattle.btf_compare.specs.PairMap.{known, count, Learns};
+    ghost use Rattle.btf_compare.specs.PairMap.{known_progress, count, Learns};
 
-    ghost knows = { λ m ids. known m ids };
+    ghost knows = { λ m ids. known_progress m ids };
 
     ghost learns = { λ old new ids p. Learns old new ids p × (count new ≡ count old + 1) };
 

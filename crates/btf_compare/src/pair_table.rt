@@ -80,10 +80,10 @@ pub struct PairTable {
 }
 
 impl Model for PairTable {
-    ghost use Rattle.btf_compare.specs.PairTable.{IsPairTable, TakesMore, Layout, layout};
+    ghost use Rattle.btf_compare.specs.PairTable.{IsPairTable, TakesMore, BucketLayout, layout};
     ghost use Rattle.btf_compare.specs.declared.entries.Progress.{Progress};
 
-    ghost Value = { Layout Progress };
+    ghost Value = { BucketLayout Progress };
 
     ghost view = { λ t. layout t.buckets.items t.mask t.further.entries };
 

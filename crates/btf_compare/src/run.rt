@@ -11,9 +11,9 @@ ghost use Rattle.std.specs.BTreeSet.{IsEmpty};
 ghost use Rattle.btf_model.specs.Fields.{Pair, HaveKinds};
 ghost use Rattle.btf_model.specs.Refusal.{Refusal};
 ghost use Rattle.btf_model.specs.Compat.{Plain, firsts};
-ghost use Rattle.btf_compare.specs.Compared.{IsStarted, FailsFor, HasStarted, CannotStart, TracesBy, GainsOnly, Passes, WalksTo, AreAt, frame_of, passed_in, progress_of, compatible_by};
+ghost use Rattle.btf_compare.specs.Compared.{IsStarted, FailsFor, HasStarted, CannotStart, TracesBy, GainsOnly, NotesPrototypes, WalksTo, AreAt, frame_of, passed_in, progress_of, progress_compatible};
 ghost use Rattle.btf_model.specs.Run.{new_frame};
-ghost use Rattle.btf_compare.specs.PairMap.{known, count, Learns};
+ghost use Rattle.btf_compare.specs.PairMap.{known_progress, count, Learns};
 ghost use Rattle.btf_compare.specs.Pairs.{pair_of};
 
 use crate::entries::Progress;
@@ -80,7 +80,7 @@ impl Run {
     /// A run that has started no pair.
     fn new(alloc: Global) -> Self
         ensures below { result.below.items ≡ [] }
-        ensures seen { (ids : ℕ × ℕ) → known result.seen ids ≡ None }
+        ensures seen { (ids : ℕ × ℕ) → known_progress result.seen ids ≡ None }
         ensures counts { count result.seen ≡ 0 }
         ensures passed { IsEmpty result.passed }
     {
@@ -94,7 +94,7 @@ impl Run {
     /// Whether a pair is known to be compatible. A pair that is still open is an error.
     #[inline(always)]
     fn is_known_compatible(&self, pair: (u32, u32)) -> Result<bool, BtfError>
-        ensures { result ≡ compatible_by pair.0 (known self.now.seen pair) }
+        ensures { result ≡ progress_compatible pair.0 (known_progress self.now.seen pair) }
     {
         match self.seen.get(pair) {
             Some(Progress::Open) => Err(BtfError::MaximumTypeDepthReached { type_id: pair.0 }),
@@ -106,7 +106,7 @@ impl Run {
     /// Records prototypes whose parameters are all known to be compatible, if they have many parameters.
     #[inline(always)]
     fn pass(&mut self, found: &ProtoPair<'_>) -> Result<(), AllocError>
-        ensures passes { OnOk result (Passes self.old.passed self.new.passed found.now) }
+        ensures passes { OnOk result (NotesPrototypes self.old.passed self.new.passed found.now) }
         ensures passed { OnOk result
             (GainsOnly self.old.passed self.new.passed (pair_of found.now.ids)) }
         ensures seen { self.new.seen ≡ self.old.seen }
@@ -121,7 +121,7 @@ impl Run {
     /// Records that an open pair is compatible, and returns the open pair below it, whose walk continues.
     #[inline(always)]
     fn mark_compatible(&mut self, pair: (u32, u32)) -> Option<Frame>
-        requires { IsSome (known self.old.seen pair) }
+        requires { IsSome (known_progress self.old.seen pair) }
         ensures next { MatchOption result (self.old.below.items ≡ [])
             (λ frame. self.old.below.items ≡ self.new.below.items ++ frame ∷ []) }
         ensures settled { Learns self.old.seen self.new.seen pair Progress.Compatible }

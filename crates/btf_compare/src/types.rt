@@ -2,7 +2,7 @@
 
 ghost use Rattle.btf_plain.specs.Error.{MeetsOrNoMemory};
 ghost use Rattle.btf_compare.specs.Compared.{ComparesTypes, ComparesTraced, GainsStarts};
-ghost use Rattle.btf_compare.specs.Pairs.{pair};
+ghost use Rattle.btf_compare.specs.Pairs.{id_pair};
 
 use crate::run::{Untraced, compare};
 use btf_plain::BtfError;
@@ -39,7 +39,7 @@ pub fn types_are_compatible(
     target_id: u32,
 ) -> Result<bool, BtfError>
     ensures { MeetsOrNoMemory (λ b. b) result
-        (ComparesTypes local.now target.now (pair local_id target_id)) }
+        (ComparesTypes local.now target.now (id_pair local_id target_id)) }
 {
     compare(local, target, (local_id, target_id), &mut Untraced)
 }
@@ -58,7 +58,7 @@ pub fn types_are_compatible_traced(
     starts: &mut Vec<(u32, u32)>,
 ) -> Result<bool, BtfError>
     // The answer of the recursion without a record, and the pairs that it starts, each at its first occurrence.
-    ensures traces { ComparesTraced local.now target.now (pair local_id target_id) result
+    ensures traces { ComparesTraced local.now target.now (id_pair local_id target_id) result
         starts.old.items starts.new.items }
     // Whatever the result: each added pair has known ids, and no pair is added twice.
     ensures starts { GainsStarts local.now target.now starts.old.items starts.new.items }

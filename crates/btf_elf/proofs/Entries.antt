@@ -10,7 +10,7 @@ use Rattle.btf_model.specs.Word.{bytes_of, number_of}
 use Rattle.btf_model.specs.Blob.{slice}
 use Rattle.btf_model.specs.declared.endianness.Endianness.{Endianness}
 use Rattle.btf_model.specs.declared.endianness.Endianness.TheVariants.{Little, Big}
-use Rattle.btf_elf_model.specs.Header.{header_len}
+use Rattle.btf_elf_model.specs.Header.{file_header_len}
 use Rattle.btf_elf_model.specs.Section.{section_header, headers_of}
 use Rattle.btf_elf_model.specs.declared.file_header.FileHeader.{FileHeader}
 use Rattle.btf_elf_model.specs.declared.section_header.SectionHeader.{SectionHeader}
@@ -55,16 +55,16 @@ get_or-first_chunks n (suc c) xs (suc k) d lt =
 
 pub length-headers : (h : FileHeader) (count : ℕ) (bytes : List ℕ) → length (headers_of h count bytes) ≡ count
 unfolding headers_of
-length-headers h count bytes = length-map (first_chunks header_len count (drop h.section_headers bytes)) (section_header h.order) ∙ length-first_chunks header_len count (drop h.section_headers bytes)
+length-headers h count bytes = length-map (first_chunks file_header_len count (drop h.section_headers bytes)) (section_header h.order) ∙ length-first_chunks file_header_len count (drop h.section_headers bytes)
 
 -- the header of a section, by its place in the bytes
 pub header_at : (h : FileHeader) (count : ℕ) (bytes : List ℕ) (k : ℕ) (d : SectionHeader) → k < count
-    → get_or (headers_of h count bytes) k d ≡ section_header h.order (slice (h.section_headers + header_len * k) header_len bytes)
+    → get_or (headers_of h count bytes) k d ≡ section_header h.order (slice (h.section_headers + file_header_len * k) file_header_len bytes)
 unfolding headers_of
 header_at h count bytes k d lt =
     let rest = drop h.section_headers bytes in
-    get_or-map (section_header h.order) (first_chunks header_len count rest) k [] d (omega (arith, lt, length-first_chunks header_len count rest))
-    ∙ ap (section_header h.order) (get_or-first_chunks header_len count rest k [] lt ∙ ap (take header_len) (drop-drop (header_len * k) h.section_headers bytes))
+    get_or-map (section_header h.order) (first_chunks file_header_len count rest) k [] d (omega (arith, lt, length-first_chunks file_header_len count rest))
+    ∙ ap (section_header h.order) (get_or-first_chunks file_header_len count rest k [] lt ∙ ap (take file_header_len) (drop-drop (file_header_len * k) h.section_headers bytes))
 
 -- ---- an element that replaces another
 

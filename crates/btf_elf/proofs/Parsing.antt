@@ -12,14 +12,14 @@ use Rattle.btf_elf_model.specs.declared.error.ParseError.{ParseError}
 use Rattle.btf_elf.specs.declared.error.ObjectError.{ObjectError}
 use Rattle.btf_elf.specs.declared.error.ObjectError.TheVariants.{Parse}
 use Rattle.btf_elf_model.proofs.Errors.{Comes, NoneComes, first_comes, none_comes, errors_of, by_parts}
-use Rattle.btf_elf.specs.Results.{IsReason}
-use Rattle.btf_elf.specs.Table.{table_of}
+use Rattle.btf_elf.specs.Results.{IsElfError}
+use Rattle.btf_elf.specs.Table.{section_header_bytes}
 use Rattle.btf_elf.specs.SymbolTable.{IsSymbolTable}
 use Rattle.btf_elf.specs.declared.symbols.SymbolTable.{SymbolTable}
 
 -- the headers that the table spells are the sections of the bytes
 pub sections_are : (bytes : List ℕ) (h : FileHeader) (table : List (List ℕ)) (sections : List SectionHeader)
-    → h ≡ file_header bytes → table ≡ table_of h bytes → sections ≡ map (section_header h.order) table → sections ≡ sections_of bytes
+    → h ≡ file_header bytes → table ≡ section_header_bytes h bytes → sections ≡ map (section_header h.order) table → sections ≡ sections_of bytes
 unfolding sections_of headers_of
 sections_are bytes h table sections p q r =
     r ∙ ap (map (section_header h.order)) q ∙ ap (λ (x : FileHeader). headers_of x (section_count x bytes) bytes) p
@@ -27,10 +27,10 @@ sections_are bytes h table sections p q r =
 -- what `parse` returns if an error comes first
 pub refused : (bytes : List ℕ) (h : FileHeader) (sections : List SectionHeader) (e : ParseError) (r : Result Object ObjectError)
     → IsErrAnd r (λ x. x ≡ Parse e) → h ≡ file_header bytes → sections ≡ sections_of bytes → Comes (errors_of bytes h sections) e
-    → MatchResult r (IsObject bytes) (IsReason bytes)
+    → MatchResult r (IsObject bytes) (IsElfError bytes)
 refused bytes h sections e r err p q comes =
     let at = err_from_is_err_and r err in
-    subst (λ (x : Result Object ObjectError). MatchResult x (IsObject bytes) (IsReason bytes)) (sym (at.1 ∙ ap (λ (x : ObjectError). Err x) at.2))
+    subst (λ (x : Result Object ObjectError). MatchResult x (IsObject bytes) (IsElfError bytes)) (sym (at.1 ∙ ap (λ (x : ObjectError). Err x) at.2))
     (sym (by_parts bytes h sections p q) ∙ first_comes (errors_of bytes h sections) e comes)
 
 -- the bytes represent the object, if there is no error

@@ -7,15 +7,15 @@ use Rattle.std.proofs.lemmas.Bool.{and_left, cond-false, cases_lt, cases_eq, bot
 use Rattle.std.proofs.lemmas.List.{length-set, get_or-set_other, get_or-set_same, get_or_default}
 use Rattle.std.proofs.lemmas.List.Recursion.{found_set_other}
 use Rattle.std.proofs.lemmas.Option.{slice_get_past, slice_get-get_or, slice_get_within, get_or_from_slice_get}
-use Rattle.btf_elf_model.specs.Header.{header_len, file_header}
-use Rattle.btf_elf_model.specs.Section.{table_end, sections_of, has_bytes, contents, is_past_end, is_over_headers, is_string_table, is_name, strings_in, string_table, link_of_first, names_index, sht_strtab, sht_symtab}
+use Rattle.btf_elf_model.specs.Header.{file_header_len, file_header}
+use Rattle.btf_elf_model.specs.Section.{table_end, sections_of, has_bytes, contents, is_past_end, is_over_headers, is_string_table, is_name_offset, strings_in, string_table, link_of_first, names_index, sht_strtab, sht_symtab}
 use Rattle.btf_elf_model.specs.Symbols.{symbol, symbol_len, is_symbol_table, symbol_table, is_malformed, symbol_entries, symbols_of, symbol_names_of}
-use Rattle.btf_elf_model.specs.Object.{Object, IsObject, names_of, object_of, parse_error, identification_error, table_error, name_error, symbol_table_error, symbol_error, when}
-use Rattle.btf_elf_model.specs.Replaced.{ReplacesSection, is_replaceable, place, moved}
+use Rattle.btf_elf_model.specs.Object.{Object, IsObject, names_of, object_of, parse_error, identification_error, table_error, name_error, symbol_table_error, symbol_error, error_when}
+use Rattle.btf_elf_model.specs.Replaced.{ReplacesSection, is_replaceable, place, moved_header}
 use Rattle.btf_elf_model.specs.declared.file_header.FileHeader.{FileHeader}
 use Rattle.btf_elf_model.specs.declared.section_header.SectionHeader.{SectionHeader}
 use Rattle.btf_elf_model.specs.declared.error.ParseError.TheVariants.{BadNameTable, BadSectionName, BadSymbolTable}
-use Rattle.btf_elf.specs.Writing.{rewritten, HasReplaced}
+use Rattle.btf_elf.specs.Writing.{file_with_section, HasReplaced}
 use Rattle.btf_elf_model.proofs.Errors.{none_comes, all_none, map_none, no_errors, errors_of, by_parts}
 use Rattle.btf_elf_model.proofs.Tests.{none_passes, position-none, past_not, not_past, over_not, SectionsFit, table_fits, fits_table, fit_sections}
 use Rattle.btf_elf.proofs.Entries.{found_at, slice_get-set_other, slice_get-set_same}
@@ -36,7 +36,7 @@ module _ (bytes : List ℕ) (index : ℕ) (s : SectionHeader) (given new : List 
 
   -- the new header of the section
   abbrev there : SectionHeader
-  there = moved (place (object_of bytes) index s (length given)) (length given) s
+  there = moved_header (place (object_of bytes) index s (length given)) (length given) s
 
   abbrev ss' : List SectionHeader
   ss' = slice_set ss index there
@@ -100,17 +100,17 @@ module _ (bytes : List ℕ) (index : ℕ) (s : SectionHeader) (given new : List 
       subst (λ (x : SectionHeader). contents new x ≡ contents bytes x) at.2 (written.contents_kept bytes index s given new w at.0 t other at.1)
 
   malformed_kept : (o : Option SectionHeader) → symbol_table ss ≡ o
-      → option_and_then (λ t. when (is_malformed new ss' t) BadSymbolTable) o ≡ option_and_then (λ t. when (is_malformed bytes ss t) BadSymbolTable) o
+      → option_and_then (λ t. error_when (is_malformed new ss' t) BadSymbolTable) o ≡ option_and_then (λ t. error_when (is_malformed bytes ss t) BadSymbolTable) o
   unfolding is_malformed
   malformed_kept None is = refl
   malformed_kept (Some t) is =
-      ap (λ (ys : List ℕ). when (not (t.entry_size == symbol_len) || not (length ys % symbol_len == 0) || is_none (string_table new ss' t.link)) BadSymbolTable) (table_kept t is)
-      ∙ ap (λ (o : Option (List ℕ)). when (not (t.entry_size == symbol_len) || not (length (contents bytes t) % symbol_len == 0) || is_none o) BadSymbolTable) (string_table_kept t.link)
+      ap (λ (ys : List ℕ). error_when (not (t.entry_size == symbol_len) || not (length ys % symbol_len == 0) || is_none (string_table new ss' t.link)) BadSymbolTable) (table_kept t is)
+      ∙ ap (λ (o : Option (List ℕ)). error_when (not (t.entry_size == symbol_len) || not (length (contents bytes t) % symbol_len == 0) || is_none o) BadSymbolTable) (string_table_kept t.link)
 
   symbol_table_error_kept : symbol_table_error new ss' ≡ symbol_table_error bytes ss
   unfolding symbol_table_error
   symbol_table_error_kept =
-      ap (option_and_then (λ t. when (is_malformed new ss' t) BadSymbolTable)) symbol_table_kept ∙ malformed_kept (symbol_table ss) refl
+      ap (option_and_then (λ t. error_when (is_malformed new ss' t) BadSymbolTable)) symbol_table_kept ∙ malformed_kept (symbol_table ss) refl
 
   entries_of : (o : Option SectionHeader) → symbol_table ss ≡ o → symbol_entries new o ≡ symbol_entries bytes o
   entries_of None is = refl
@@ -163,11 +163,11 @@ module _ (bytes : List ℕ) (index : ℕ) (s : SectionHeader) (given new : List 
   name_error_with : (names : Option (List ℕ)) → name_error names ss ≡ None → name_error names ss' ≡ None
   unfolding name_error
   name_error_with names none =
-      let nameless : SectionHeader → Bool = λ t. not (is_name (unwrap_or names []) t.name) in
-      let errors = all_none (when (is_none names) BadNameTable ∷ option_map BadSectionName (position nameless ss) ∷ []) none in
+      let nameless : SectionHeader → Bool = λ t. not (is_name_offset (unwrap_or names []) t.name) in
+      let errors = all_none (error_when (is_none names) BadNameTable ∷ option_map BadSectionName (position nameless ss) ∷ []) none in
       let each = none_passes nameless ss s (map_none BadSectionName (position nameless ss) errors.1.0) in
       let all = each_holds (λ t. nameless t ≡ false) (λ k d other lt. ap nameless (get_or_default ss k d s lt) ∙ each k lt) (sym (ap nameless w.header) ∙ each index w.within) in
-      none_comes (when (is_none names) BadNameTable ∷ option_map BadSectionName (position nameless ss') ∷ [])
+      none_comes (error_when (is_none names) BadNameTable ∷ option_map BadSectionName (position nameless ss') ∷ [])
       (errors.0, (ap (option_map BadSectionName) (position-none nameless ss' s (λ k lt. all k s lt)), tt))
 
   no_error : parse_error new ≡ None
@@ -229,7 +229,7 @@ pub record IsRewrite (o : Object) (index : ℕ) (s : SectionHeader) (given file 
   pub section : slice_get o.sections index ≡ Some s
   pub replaceable : is_replaceable index s ≡ true
   pub end : place o index s (length given) + length given < 2 ^ 64
-  pub file_is : file ≡ rewritten o.header o.bytes index (place o index s (length given)) given
+  pub file_is : file ≡ file_with_section o.header o.bytes index (place o index s (length given)) given
 
 written_of : (bytes : List ℕ) (index : ℕ) (s : SectionHeader) (given file : List ℕ) → IsRewrite (object_of bytes) index s given file → IsWritten bytes index s given file
 written_of bytes index s given file r = record {
@@ -254,7 +254,7 @@ has_replaced o index s given file r =
 
 -- the header of a section is in the file
 pub header_within : (o : Object) (index : ℕ) (s : SectionHeader) → IsObject o.bytes o → slice_get o.sections index ≡ Some s
-    → o.header.section_headers + header_len * index + 40 ≤ length o.bytes
+    → o.header.section_headers + file_header_len * index + 40 ≤ length o.bytes
 header_within o index s valid is =
     let h = file_header o.bytes in
     let lt = slice_get_within o.sections index s is in

@@ -7,10 +7,10 @@ use Rattle.std.proofs.lemmas.List.{ext_get_or, length-set, get_or-set_other, get
 use Rattle.std.proofs.Math.Seq.{drop-append_seam}
 use Rattle.btf_model.specs.Word.{bytes_of, number_of, word_of}
 use Rattle.btf_model.specs.Blob.{slice, word_at}
-use Rattle.btf_elf_model.specs.Header.{header_len, front, file_header, header_in, order_of, xword_at}
+use Rattle.btf_elf_model.specs.Header.{file_header_len, front, file_header, header_in, order_of, xword_at}
 use Rattle.btf_elf_model.specs.Section.{section_header, headers_of, section_count, table_end, sections_of, has_bytes, contents, is_over_headers, sht_strtab, sht_symtab}
 use Rattle.btf_elf_model.specs.Object.{object_of, parse_error}
-use Rattle.btf_elf_model.specs.Replaced.{is_replaceable, place, fits, alignment_of, aligned, moved, place_in_header, Apart}
+use Rattle.btf_elf_model.specs.Replaced.{is_replaceable, place, fits, alignment_of, aligned, moved_header, place_in_header, Apart}
 use Rattle.btf_elf_model.specs.declared.file_header.FileHeader.{FileHeader}
 use Rattle.btf_elf_model.specs.declared.section_header.SectionHeader.{SectionHeader}
 use Rattle.btf_elf.specs.Writing.{put}
@@ -48,7 +48,7 @@ module _ (bytes : List ℕ) (index : ℕ) (s : SectionHeader) (given new : List 
   at = place (object_of bytes) index s (length given)
 
   abbrev pub entry : ℕ
-  entry = h.section_headers + header_len * index
+  entry = h.section_headers + file_header_len * index
 
   -- a replaceable section is not section 0, and has one of the allowed types
   pub is_some : (0 < index) × (has_bytes s ≡ true) × ((s.kind == sht_strtab) ≡ false) × ((s.kind == sht_symtab) ≡ false)
@@ -73,7 +73,7 @@ module _ (bytes : List ℕ) (index : ℕ) (s : SectionHeader) (given new : List 
   unfolding place
   at_clear some =
       cond_both (fits (sections_of bytes) index s (length given)) s.offset (aligned (length bytes) (alignment_of s))
-      (λ n. (header_len ≤ n) × ((table_end h bytes ≤ n) ⊎ (n + length given ≤ h.section_headers)))
+      (λ n. (file_header_len ≤ n) × ((table_end h bytes ≤ n) ⊎ (n + length given ≤ h.section_headers)))
       (λ fit.
       let few = (fits_apart (sections_of bytes) index s (length given) w.within fit).0 in
       let clear = not_over h.section_headers (table_end h bytes) s (ap (is_over_headers h.section_headers (table_end h bytes)) (sym w.header) ∙ old_sections.clear index s w.within) is_some.1 (omega (arith, some, few)) in
@@ -110,7 +110,7 @@ module _ (bytes : List ℕ) (index : ℕ) (s : SectionHeader) (given new : List 
   length-base = length-put at given (bytes ++ replicate w.spare 0) (omega (arith, length-spare, w.room)) ∙ length-spare
 
   -- the header of the section is in the table
-  pub entry_within : entry + header_len ≤ table_end h bytes
+  pub entry_within : entry + file_header_len ≤ table_end h bytes
   entry_within = omega (arith, w.within, count_is)
 
   pub length-new : length new ≡ max (length bytes) (at + length given)
@@ -143,7 +143,7 @@ module _ (bytes : List ℕ) (index : ℕ) (s : SectionHeader) (given new : List 
 
   pub front_same : front new ≡ front bytes
   front_same =
-      keeps 0 header_len (omega (arith, table.behind, table.within))
+      keeps 0 file_header_len (omega (arith, table.behind, table.within))
       (λ _ _. inl (omega (arith, table.behind)))
       (λ _ some. inl (omega (arith, (at_clear some).0)))
 
@@ -154,69 +154,69 @@ module _ (bytes : List ℕ) (index : ℕ) (s : SectionHeader) (given new : List 
   pub count_same : section_count h new ≡ section_count h bytes
   unfolding section_count
   count_same =
-      let first : slice h.section_headers header_len new ≡ slice h.section_headers header_len bytes =
-      keeps h.section_headers header_len (omega (arith, table.within))
+      let first : slice h.section_headers file_header_len new ≡ slice h.section_headers file_header_len bytes =
+      keeps h.section_headers file_header_len (omega (arith, table.within))
       (λ _ _. inl (omega (arith, is_some.0)))
-      (table_apart h.section_headers header_len (omega arith) (omega arith)) in
+      (table_apart h.section_headers file_header_len (omega arith) (omega arith)) in
       ap (λ (f : List ℕ). if h.section_headers == 0 then 0 else (if h.section_header_count == 0 then (section_header h.order f).size else h.section_header_count)) first
 
   pub table_end_same : table_end h new ≡ table_end h bytes
-  table_end_same = ap (λ (n : ℕ). h.section_headers + header_len * max 1 n) count_same
+  table_end_same = ap (λ (n : ℕ). h.section_headers + file_header_len * max 1 n) count_same
 
   -- ---- the section headers
 
   header_kept : (k : ℕ) → k ≢ index → k < length (sections_of bytes)
-      → slice (h.section_headers + header_len * k) header_len new ≡ slice (h.section_headers + header_len * k) header_len bytes
+      → slice (h.section_headers + file_header_len * k) file_header_len new ≡ slice (h.section_headers + file_header_len * k) file_header_len bytes
   header_kept k other lt =
-      keeps (h.section_headers + header_len * k) header_len (omega (arith, lt, count_is, table.within))
+      keeps (h.section_headers + file_header_len * k) file_header_len (omega (arith, lt, count_is, table.within))
       (λ _ _. ⊎_elim (λ before. inl (omega (arith, before))) (λ behind. inr (omega (arith, behind, other))) (cases_lt k index))
-      (table_apart (h.section_headers + header_len * k) header_len (omega arith) (omega (arith, lt, count_is)))
+      (table_apart (h.section_headers + file_header_len * k) file_header_len (omega arith) (omega (arith, lt, count_is)))
 
   -- a part of the section's header outside the two words does not change
-  part_kept : (j n : ℕ) → j + n ≤ header_len → (j + n ≤ 24) ⊎ (40 ≤ j) → slice j n (slice entry header_len new) ≡ slice j n (slice entry header_len bytes)
+  part_kept : (j n : ℕ) → j + n ≤ file_header_len → (j + n ≤ 24) ⊎ (40 ≤ j) → slice j n (slice entry file_header_len new) ≡ slice j n (slice entry file_header_len bytes)
   part_kept j n within beside =
-      slice-slice j n entry header_len new within
+      slice-slice j n entry file_header_len new within
       ∙ keeps (entry + j) n (omega (arith, within, entry_within, table.within))
       (λ _ _. ⊎_elim (λ le. inl (omega (arith, le))) (λ le. inr (omega (arith, le))) beside)
       (table_apart (entry + j) n (omega arith) (omega (arith, within, entry_within)))
-      ∙ sym (slice-slice j n entry header_len bytes within)
+      ∙ sym (slice-slice j n entry file_header_len bytes within)
 
   -- the two words are the written ones
-  word_written : (f : ℕ) → f + 8 ≤ 16 → slice (24 + f) 8 (slice entry header_len new) ≡ slice f 8 words
+  word_written : (f : ℕ) → f + 8 ≤ 16 → slice (24 + f) 8 (slice entry file_header_len new) ≡ slice f 8 words
   word_written f within =
       let place : entry + (24 + f) ≡ (entry + 24) + f = omega arith in
-      slice-slice (24 + f) 8 entry header_len new (omega (arith, within))
+      slice-slice (24 + f) 8 entry file_header_len new (omega (arith, within))
       ∙ ap (λ (n : ℕ). slice n 8 new) place
       ∙ ap (slice ((entry + 24) + f) 8) w.new_is
       ∙ slice-put_same f 8 (entry + 24) words base (omega (arith, within, length-words)) (omega (arith, length-words, length-base, entry_within, table.within))
 
-  offset_written : xword_at h.order 24 (slice entry header_len new) ≡ at
+  offset_written : xword_at h.order 24 (slice entry file_header_len new) ≡ at
   offset_written =
       ap (number_of w64 h.order) (word_written 0 (omega arith) ∙ slice-first (bytes_of w64 h.order at) (bytes_of w64 h.order (length given)) (length-xword h.order at))
       ∙ number_of-bytes_of h.order at w.small
 
-  size_written : xword_at h.order 32 (slice entry header_len new) ≡ length given
+  size_written : xword_at h.order 32 (slice entry file_header_len new) ≡ length given
   size_written =
       ap (number_of w64 h.order) (word_written 8 (omega arith)
       ∙ slice-second (bytes_of w64 h.order at) (bytes_of w64 h.order (length given)) (length-xword h.order at) (length-xword h.order (length given)))
       ∙ number_of-bytes_of h.order (length given) w.short
 
-  header_was : section_header h.order (slice entry header_len bytes) ≡ s
+  header_was : section_header h.order (slice entry file_header_len bytes) ≡ s
   unfolding sections_of
   header_was = sym (header_at h (section_count h bytes) bytes index s (omega (arith, w.within, count_is))) ∙ w.header
 
   -- the section's header has another offset and size
-  header_moved : section_header h.order (slice entry header_len new) ≡ moved at (length given) s
+  header_moved : section_header h.order (slice entry file_header_len new) ≡ moved_header at (length given) s
   unfolding section_header
-  header_moved = fields ∙ ap (moved at (length given)) header_was
+  header_moved = fields ∙ ap (moved_header at (length given)) header_was
     where
-      word : (j : ℕ) → j + 4 ≤ header_len → (j + 4 ≤ 24) ⊎ (40 ≤ j) → word_at h.order j (slice entry header_len new) ≡ word_at h.order j (slice entry header_len bytes)
+      word : (j : ℕ) → j + 4 ≤ file_header_len → (j + 4 ≤ 24) ⊎ (40 ≤ j) → word_at h.order j (slice entry file_header_len new) ≡ word_at h.order j (slice entry file_header_len bytes)
       word j within beside = ap (word_of h.order) (part_kept j 4 within beside)
 
-      xword : (j : ℕ) → j + 8 ≤ header_len → (j + 8 ≤ 24) ⊎ (40 ≤ j) → xword_at h.order j (slice entry header_len new) ≡ xword_at h.order j (slice entry header_len bytes)
+      xword : (j : ℕ) → j + 8 ≤ file_header_len → (j + 8 ≤ 24) ⊎ (40 ≤ j) → xword_at h.order j (slice entry file_header_len new) ≡ xword_at h.order j (slice entry file_header_len bytes)
       xword j within beside = ap (number_of w64 h.order) (part_kept j 8 within beside)
 
-      fields : section_header h.order (slice entry header_len new) ≡ moved at (length given) (section_header h.order (slice entry header_len bytes))
+      fields : section_header h.order (slice entry file_header_len new) ≡ moved_header at (length given) (section_header h.order (slice entry file_header_len bytes))
       fields = λ i. record {
         name = word 0 (omega arith) (inl (omega arith)) i;
         kind = word 4 (omega arith) (inl (omega arith)) i;
@@ -231,30 +231,30 @@ module _ (bytes : List ℕ) (index : ℕ) (s : SectionHeader) (given new : List 
       }
 
   -- the section headers of the new bytes
-  pub sections_same : sections_of new ≡ slice_set (sections_of bytes) index (moved at (length given) s)
+  pub sections_same : sections_of new ≡ slice_set (sections_of bytes) index (moved_header at (length given) s)
   unfolding sections_of
   sections_same =
-      headers_new ∙ ext_get_or s (headers_of h (section_count h bytes) new) (slice_set (sections_of bytes) index (moved at (length given) s))
-      (length-headers h (section_count h bytes) new ∙ count_is ∙ sym (length-set (sections_of bytes) index (moved at (length given) s)))
+      headers_new ∙ ext_get_or s (headers_of h (section_count h bytes) new) (slice_set (sections_of bytes) index (moved_header at (length given) s))
+      (length-headers h (section_count h bytes) new ∙ count_is ∙ sym (length-set (sections_of bytes) index (moved_header at (length given) s)))
       (λ k lt. each k (omega (arith, lt, length-headers h (section_count h bytes) new, count_is)))
     where
       headers_new : sections_of new ≡ headers_of h (section_count h bytes) new
       headers_new = ap (λ (x : FileHeader). headers_of x (section_count x new) new) header_same ∙ ap (λ (n : ℕ). headers_of h n new) count_same
 
-      at_old : (k : ℕ) → k < length (sections_of bytes) → get_or (sections_of bytes) k s ≡ section_header h.order (slice (h.section_headers + header_len * k) header_len bytes)
+      at_old : (k : ℕ) → k < length (sections_of bytes) → get_or (sections_of bytes) k s ≡ section_header h.order (slice (h.section_headers + file_header_len * k) file_header_len bytes)
       at_old k lt = header_at h (section_count h bytes) bytes k s (omega (arith, lt, count_is))
 
-      each : (k : ℕ) → k < length (sections_of bytes) → get_or (headers_of h (section_count h bytes) new) k s ≡ get_or (slice_set (sections_of bytes) index (moved at (length given) s)) k s
+      each : (k : ℕ) → k < length (sections_of bytes) → get_or (headers_of h (section_count h bytes) new) k s ≡ get_or (slice_set (sections_of bytes) index (moved_header at (length given) s)) k s
       each k lt =
           header_at h (section_count h bytes) new k s (omega (arith, lt, count_is))
           ∙ ⊎_elim
-          (λ same. ap (λ (n : ℕ). section_header h.order (slice (h.section_headers + header_len * n) header_len new)) same
+          (λ same. ap (λ (n : ℕ). section_header h.order (slice (h.section_headers + file_header_len * n) file_header_len new)) same
           ∙ header_moved
-          ∙ sym (get_or-set_same (sections_of bytes) index (moved at (length given) s) s w.within)
-          ∙ ap (λ (n : ℕ). get_or (slice_set (sections_of bytes) index (moved at (length given) s)) n s) (sym same))
+          ∙ sym (get_or-set_same (sections_of bytes) index (moved_header at (length given) s) s w.within)
+          ∙ ap (λ (n : ℕ). get_or (slice_set (sections_of bytes) index (moved_header at (length given) s)) n s) (sym same))
           (λ other. ap (section_header h.order) (header_kept k other lt)
           ∙ sym (at_old k lt)
-          ∙ sym (get_or-set_other (sections_of bytes) index k (moved at (length given) s) s other))
+          ∙ sym (get_or-set_other (sections_of bytes) index k (moved_header at (length given) s) s other))
           (cases_eq k index)
 
   -- ---- the bytes of sections
@@ -274,7 +274,7 @@ module _ (bytes : List ℕ) (index : ℕ) (s : SectionHeader) (given new : List 
       (λ none. cond-false (has_bytes t) (slice t.offset t.size new) [] none ∙ sym (cond-false (has_bytes t) (slice t.offset t.size bytes) [] none))
       (cases_Bool (has_bytes t))
 
-  pub contents_new : contents new (moved at (length given) s) ≡ given
+  pub contents_new : contents new (moved_header at (length given) s) ≡ given
   unfolding contents
   contents_new =
       cond-true (has_bytes s) (slice at (length given) new) [] is_some.1

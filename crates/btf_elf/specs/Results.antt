@@ -11,6 +11,6 @@ HasError (Ok _) error = error ≡ None
 HasError (Err e) error = error ≡ Some e
 
 -- The error is the first error of the bytes, or reports that an allocation failed.
-abbrev pub IsReason : List ℕ → ObjectError → Type 0
-IsReason bytes (Parse e) = IsParseError bytes e
-IsReason bytes OutOfMemory = ⊤
+abbrev pub IsElfError : List ℕ → ObjectError → Type 0
+IsElfError bytes (Parse e) = IsParseError bytes e
+IsElfError bytes OutOfMemory = ⊤

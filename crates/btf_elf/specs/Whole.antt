@@ -10,7 +10,7 @@ abbrev pub as_object : Inside → model.Object
 as_object a = record { header = a.header; sections = a.sections.items; bytes = a.bytes.now }
 
 -- The bytes represent an object, and the fields agree with it.
-pub record IsWhole (a : Inside) : Type 0 where
+pub record IsWholeObject (a : Inside) : Type 0 where
   pub object : model.IsObject a.bytes.now (as_object a)
   pub names : model.name_table (as_object a) ≡ Some a.names.now
   pub symbols : IsSymbolTable a.bytes.now a.sections.items (symbol_table a.sections.items) a.symbols

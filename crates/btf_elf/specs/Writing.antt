@@ -2,7 +2,7 @@
 use Rattle.std.specs.Prelude.{◌≡◌, ℕ, ◌+◌, ◌-◌, ◌*◌, List, ◌++◌, length, take, drop, max, replicate, slice_get, if◌then◌else◌, Option, Some, None}
 use Rattle.std.specs.Int.{w64}
 use Rattle.btf_model.specs.Word.{bytes_of}
-use Rattle.btf_elf_model.specs.Header.{header_len}
+use Rattle.btf_elf_model.specs.Header.{file_header_len}
 use Rattle.btf_elf_model.specs.Object.{Object, IsObject}
 use Rattle.btf_elf_model.specs.Replaced.{ReplacesSection, is_replaceable}
 use Rattle.btf_elf_model.specs.declared.file_header.FileHeader.{FileHeader}
@@ -23,9 +23,9 @@ abbrev pub place_words : FileHeader → ℕ → ℕ → List ℕ
 place_words h offset size = bytes_of w64 h.order offset ++ bytes_of w64 h.order size
 
 -- the bytes of a file in which the bytes of a section, and the two words of its header, are replaced
-abbrev pub rewritten : FileHeader → List ℕ → ℕ → ℕ → List ℕ → List ℕ
-rewritten h bytes index offset given =
-    put (h.section_headers + header_len * index + 24) (place_words h offset (length given))
+abbrev pub file_with_section : FileHeader → List ℕ → ℕ → ℕ → List ℕ → List ℕ
+file_with_section h bytes index offset given =
+    put (h.section_headers + file_header_len * index + 24) (place_words h offset (length given))
     (put offset given (up_to (offset + length given) bytes))
 
 -- why the bytes of a section, if there is one, can't be replaced

@@ -1,7 +1,7 @@
 //! The file header.
 
 ghost use Rattle.std.specs.Prelude.{◌≡◌, ◌≤◌, length, IfOk};
-ghost use Rattle.btf_elf_model.specs.Header.{header_in, file_header, header_len, front, order_of};
+ghost use Rattle.btf_elf_model.specs.Header.{header_in, file_header, file_header_len, front, order_of};
 ghost use Rattle.btf_elf_model.specs.Object.{identification_error, header_error};
 ghost use Rattle.btf_elf.specs.Results.{HasError};
 
@@ -17,7 +17,7 @@ const MAGIC: [u8; 4] = [0x7f, b'E', b'L', b'F'];
 
 /// The file header that 64 bytes spell, in a byte order.
 fn header_in(bytes: &[u8], order: Endianness) -> FileHeader
-    requires { header_len ≤ length bytes.now }
+    requires { file_header_len ≤ length bytes.now }
     ensures { result ≡ header_in order bytes.now }
 {
     FileHeader {
@@ -47,7 +47,7 @@ fn header_in(bytes: &[u8], order: Endianness) -> FileHeader
 fn identify(front: &[u8]) -> Result<Endianness, ParseError>
     ensures error { HasError result (identification_error front.now) }
     ensures ok { IfOk result (λ order. (order ≡ order_of front.now)
-        × (header_len ≤ length front.now)) }
+        × (file_header_len ≤ length front.now)) }
 {
     if front.len() < HEADER_LEN || !front.starts_with(&MAGIC) {
         return Err(ParseError::NotElf);

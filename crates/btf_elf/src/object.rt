@@ -5,7 +5,7 @@ ghost use Rattle.std.specs.Option.{option_copied};
 ghost use Rattle.std.specs.Str.{bytes_eq};
 ghost use Rattle.btf_elf_model.specs.Object as model;
 ghost use Rattle.btf_elf_model.specs.Replaced.{is_replaceable, place};
-ghost use Rattle.btf_elf.specs.Results.{IsReason};
+ghost use Rattle.btf_elf.specs.Results.{IsElfError};
 ghost use Rattle.btf_elf.specs.Writing.{replace_error, HasReplaced};
 
 use crate::error::{ObjectError, ReplaceError};
@@ -35,11 +35,11 @@ impl<'a> Model for Object<'a> {
 
     ghost Value = { model.Object };
 
-    ghost use Rattle.btf_elf.specs.Whole.{as_object, IsWhole};
+    ghost use Rattle.btf_elf.specs.Whole.{as_object, IsWholeObject};
 
     ghost view = { as_object };
 
-    ghost invariant = { IsWhole };
+    ghost invariant = { IsWholeObject };
 }
 
 impl<'a> Object<'a> {
@@ -47,7 +47,7 @@ impl<'a> Object<'a> {
     ///
     /// Fails with `Parse` and the first error of the bytes, in the order of `ParseError`, or with `OutOfMemory`.
     pub fn parse(alloc: Global, bytes: &'a [u8]) -> Result<Object<'a>, ObjectError>
-        ensures { MatchResult result (model.IsObject bytes.now) (IsReason bytes.now) }
+        ensures { MatchResult result (model.IsObject bytes.now) (IsElfError bytes.now) }
     {
         let header = read_header(bytes)?;
         check_header(&header)?;

@@ -4,9 +4,9 @@ ghost use Rattle.std.specs.Prelude.{◌≡◌, ◌+◌, ◌*◌, ◌^◌, ◌<�
 ghost use Rattle.std.specs.Int.{w64};
 ghost use Rattle.std.specs.List.{list_any};
 ghost use Rattle.btf_model.specs.Word.{bytes_of};
-ghost use Rattle.btf_elf_model.specs.Header.{header_len};
+ghost use Rattle.btf_elf_model.specs.Header.{file_header_len};
 ghost use Rattle.btf_elf_model.specs.Replaced.{is_replaceable, shares_bytes, fits, alignment_of, aligned};
-ghost use Rattle.btf_elf.specs.Writing.{put, up_to, place_words, rewritten};
+ghost use Rattle.btf_elf.specs.Writing.{put, up_to, place_words, file_with_section};
 
 use crate::section::has_bytes;
 use btf_elf_model::{FileHeader, SectionHeader};
@@ -122,10 +122,10 @@ pub fn rewritten(
     offset: u64,
     given: &[u8],
 ) -> Result<Vec<u8>, AllocError>
-    requires header { header.now.section_headers + header_len * index + 40 ≤ length bytes.now }
+    requires header { header.now.section_headers + file_header_len * index + 40 ≤ length bytes.now }
     requires end { offset + length given.now < 2 ^ 64 }
     ensures { IfOk result (λ file.
-        file.items ≡ rewritten header.now bytes.now index offset given.now) }
+        file.items ≡ file_with_section header.now bytes.now index offset given.now) }
 {
     let offset = offset as usize;
     let mut file = copy_up_to(alloc, bytes, offset + given.len())?;

@@ -4,7 +4,7 @@ ghost use Rattle.std.specs.Prelude.{◌≡◌, ◌<◌, ◌≤◌, Some, not, po
 ghost use Rattle.std.specs.List.{before_first};
 ghost use Rattle.std.specs.Option.{option_copied};
 ghost use Rattle.std.specs.Str.{bytes_eq};
-ghost use Rattle.btf_elf_model.specs.Section.{is_zero, is_string_table, is_name, name_at, string_table, names_index};
+ghost use Rattle.btf_elf_model.specs.Section.{ends_name, is_string_table, is_name_offset, name_at, string_table, names_index};
 ghost use Rattle.btf_elf_model.specs.Object.{names_of, name_error};
 ghost use Rattle.btf_elf.specs.Results.{HasError};
 
@@ -59,21 +59,21 @@ pub fn string_table<'a>(bytes: &'a [u8], sections: &[SectionHeader], index: u32)
 
 /// Whether a name begins at an offset.
 pub fn is_name(strings: &[u8], offset: u32) -> bool
-    ensures { result ≡ is_name strings.now offset }
+    ensures { result ≡ is_name_offset strings.now offset }
 {
     offset == 0 || (offset as usize) < strings.len()
 }
 
 /// The index of the first zero byte.
 fn first_zero(bytes: &[u8]) -> Option<usize>
-    ensures { result ≡ position is_zero bytes.now }
+    ensures { result ≡ position ends_name bytes.now }
 {
     bytes.iter().position(|&byte| byte == 0)
 }
 
 /// The bytes up to the first zero byte; all bytes if there is none.
 fn before_zero(bytes: &[u8]) -> &[u8]
-    ensures { result.now ≡ before_first is_zero bytes.now }
+    ensures { result.now ≡ before_first ends_name bytes.now }
 {
     match first_zero(bytes) {
         Some(len) => &bytes[..len],
@@ -122,7 +122,7 @@ pub fn has_name(strings: &[u8], offset: u32, name: &[u8]) -> bool
 
 /// The first section whose name doesn't begin in a string table.
 fn first_unnamed(names: &[u8], sections: &[SectionHeader]) -> Option<usize>
-    ensures { result ≡ position (λ s. not (is_name names.now s.name)) sections.now }
+    ensures { result ≡ position (λ s. not (is_name_offset names.now s.name)) sections.now }
 {
     sections.iter().position(|s| !is_name(names, s.name))
 }

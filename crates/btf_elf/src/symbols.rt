@@ -2,9 +2,9 @@
 
 ghost use Rattle.std.specs.Prelude.{◌≡◌, Some, not, map, position, IfOk};
 ghost use Rattle.std.specs.Option.{option_copied};
-ghost use Rattle.btf_elf_model.specs.Section.{is_name};
+ghost use Rattle.btf_elf_model.specs.Section.{is_name_offset};
 ghost use Rattle.btf_elf_model.specs.Symbols.{symbol, symbol_table, is_malformed};
-ghost use Rattle.btf_elf_model.specs.Object.{when, symbol_table_error, symbol_error};
+ghost use Rattle.btf_elf_model.specs.Object.{error_when, symbol_table_error, symbol_error};
 ghost use Rattle.btf_elf.specs.Results.{HasError};
 ghost use Rattle.btf_elf.specs.SymbolTable.{IsSymbolTable};
 
@@ -52,7 +52,7 @@ fn read_table<'a>(
     section: &SectionHeader,
 ) -> Result<SymbolTable<'a>, ParseError>
     ensures error { HasError result
-        (when (is_malformed bytes.now sections.now section.now) ParseError.BadSymbolTable) }
+        (error_when (is_malformed bytes.now sections.now section.now) ParseError.BadSymbolTable) }
     ensures ok { IfOk result (IsSymbolTable bytes.now sections.now (Some section.now)) }
 {
     let (entries, rest) = contents(bytes, section).as_chunks::<24>();
@@ -85,7 +85,7 @@ pub fn read_symbols<'a>(
 
 /// The first symbol whose name doesn't begin in the string table.
 fn first_unnamed(table: &SymbolTable<'_>, order: Endianness) -> Option<usize>
-    ensures { result ≡ position (λ s. not (is_name table.now.names.now s.name))
+    ensures { result ≡ position (λ s. not (is_name_offset table.now.names.now s.name))
         (map (symbol order) table.now.entries.now) }
 {
     let names = table.names;

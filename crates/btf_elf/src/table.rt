@@ -2,11 +2,11 @@
 
 ghost use Rattle.std.specs.Prelude.{◌≡◌, ◌≢◌, ◌+◌, ◌-◌, ◌*◌, max, ◌/◌, ◌<◌, ◌^◌, ◌≤◌, length, drop, map, MatchOption, IfOk, OnOk};
 ghost use Rattle.std.specs.Simd.{first_chunks};
-ghost use Rattle.btf_elf_model.specs.Header.{header_len};
+ghost use Rattle.btf_elf_model.specs.Header.{file_header_len};
 ghost use Rattle.btf_elf_model.specs.Section.{section_header, section_count, table_end};
 ghost use Rattle.btf_elf_model.specs.Object.{table_error};
 ghost use Rattle.btf_elf.specs.Results.{HasError};
-ghost use Rattle.btf_elf.specs.Table.{table_of, count_by_first, IsTableOutside};
+ghost use Rattle.btf_elf.specs.Table.{section_header_bytes, count_by_first, IsTableOutside};
 
 use crate::words::{word_at, xword_at};
 use btf_elf_model::{FileHeader, ParseError, SectionHeader};
@@ -49,7 +49,7 @@ fn entries_at(bytes: &[u8], offset: u64) -> Option<&[[u8; 64]]>
     ensures { MatchOption result
         (length bytes.now < offset)
         (λ t. (offset ≤ length bytes.now)
-        × (t.now ≡ first_chunks header_len ((length bytes.now - offset) / 64)
+        × (t.now ≡ first_chunks file_header_len ((length bytes.now - offset) / 64)
         (drop offset bytes.now))
         × (length t.now ≡ (length bytes.now - offset) / 64)) }
 {
@@ -62,7 +62,7 @@ fn entries_at(bytes: &[u8], offset: u64) -> Option<&[[u8; 64]]>
 #[tactic(auto, unfolding(btf_elf_model::specs::Object::table_error, btf_elf_model::specs::Section::section_count))]
 pub fn section_table<'a>(bytes: &'a [u8], header: &FileHeader) -> Result<&'a [[u8; 64]], ParseError>
     ensures error { HasError result (table_error header.now bytes.now) }
-    ensures ok { IfOk result (λ t. (t.now ≡ table_of header.now bytes.now)
+    ensures ok { IfOk result (λ t. (t.now ≡ section_header_bytes header.now bytes.now)
         × (length t.now ≡ section_count header.now bytes.now)) }
     ensures end { OnOk result (table_end header.now bytes.now < 2 ^ 63) }
 {
@@ -77,7 +77,8 @@ fn find_table<'a>(bytes: &'a [u8], header: &FileHeader) -> Option<&'a [[u8; 64]]
     requires { header.now.section_headers ≢ 0 }
     ensures { MatchOption result
         (IsTableOutside header.now bytes.now)
-        (λ t. ¬ (IsTableOutside header.now bytes.now) × (t.now ≡ table_of header.now bytes.now)
+        (λ t. ¬ (IsTableOutside header.now bytes.now) ×
+        (t.now ≡ section_header_bytes header.now bytes.now)
         × (length t.now ≡ section_count header.now bytes.now)) }
 {
     if header.section_headers < 64 {

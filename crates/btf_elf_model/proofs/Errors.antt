@@ -4,7 +4,7 @@ use Rattle.std.specs.Prelude.{option_map}
 use Rattle.btf_elf_model.specs.Header.{front, file_header}
 use Rattle.btf_elf_model.specs.Section.{sections_of}
 use Rattle.btf_elf_model.specs.Symbols.{symbol_table, symbols_of, symbol_names_of}
-use Rattle.btf_elf_model.specs.Object.{names_of, first_error, when, identification_error, header_error, table_error, section_error, name_error, symbol_table_error, symbol_error, parse_error}
+use Rattle.btf_elf_model.specs.Object.{names_of, first_error, error_when, identification_error, header_error, table_error, section_error, name_error, symbol_table_error, symbol_error, parse_error}
 use Rattle.btf_elf_model.specs.declared.file_header.FileHeader.{FileHeader}
 use Rattle.btf_elf_model.specs.declared.section_header.SectionHeader.{SectionHeader}
 use Rattle.btf_elf_model.specs.declared.error.ParseError.{ParseError}
@@ -56,7 +56,7 @@ pub no_errors : (bytes : List ℕ) → parse_error bytes ≡ None → NoneComes 
 unfolding parse_error
 no_errors bytes none = all_none (errors_of bytes (file_header bytes) (sections_of bytes)) none
 
-pub when_none : (b : Bool) (e : ParseError) → when b e ≡ None → b ≡ false
+pub when_none : (b : Bool) (e : ParseError) → error_when b e ≡ None → b ≡ false
 when_none true e is = cc
 when_none false e is = refl
 

@@ -7,10 +7,10 @@ use Rattle.std.proofs.lemmas.Bool.{ltb-true, eqb-true, and_parts, or_cases, or_p
 use Rattle.std.proofs.lemmas.List.{length-take-le, length-drop, get_or-drop}
 use Rattle.std.proofs.lemmas.List.Sums.{fails_before_first, passes_at_first}
 use Rattle.std.proofs.lemmas.Option.{slice_get-get_or, slice_get_within, get_or_from_slice_get}
-use Rattle.btf_elf_model.specs.Header.{header_len, file_header}
-use Rattle.btf_elf_model.specs.Section.{table_end, sections_of, has_bytes, is_past_end, is_over_headers, contents, is_zero, is_string_table, is_name, name_at, strings_in, string_table}
+use Rattle.btf_elf_model.specs.Header.{file_header_len, file_header}
+use Rattle.btf_elf_model.specs.Section.{table_end, sections_of, has_bytes, is_past_end, is_over_headers, contents, ends_name, is_string_table, is_name_offset, name_at, strings_in, string_table}
 use Rattle.btf_elf_model.specs.Symbols.{is_malformed, symbol_table, symbol_names_of, symbol_len}
-use Rattle.btf_elf_model.specs.Object.{Object, IsObject, name_table, symbols, symbol_names, when, name_error, symbol_table_error, symbol_error}
+use Rattle.btf_elf_model.specs.Object.{Object, IsObject, name_table, symbols, symbol_names, error_when, name_error, symbol_table_error, symbol_error}
 use Rattle.btf_elf_model.specs.Laws.{Ends}
 use Rattle.btf_elf_model.specs.declared.section_header.SectionHeader.{SectionHeader}
 use Rattle.btf_elf_model.specs.declared.symbol.Symbol.{Symbol}
@@ -33,7 +33,7 @@ within bytes o index s is at some =
     not_past (length bytes) s (sym (ap (λ (t : SectionHeader). is_past_end (length bytes) t) here) ∙ test) some
 
 pub apart : (bytes : List ℕ) (o : Object) (index : ℕ) (s : SectionHeader) → IsObject bytes o → slice_get o.sections index ≡ Some s → has_bytes s ≡ true → 0 < s.size
-    → (header_len ≤ s.offset) × ((table_end o.header bytes ≤ s.offset) ⊎ (s.offset + s.size ≤ o.header.section_headers))
+    → (file_header_len ≤ s.offset) × ((table_end o.header bytes ≤ s.offset) ⊎ (s.offset + s.size ≤ o.header.section_headers))
 apart bytes o index s is at some size =
     let here = get_or_from_slice_get o.sections index s s at in
     let test = (fit bytes o is).clear index s (slice_get_within o.sections index s at) in
@@ -53,12 +53,12 @@ name_ends strings offset lt last =
     let rest = drop offset strings in
     let len : length rest ≡ length strings - offset = length-drop offset strings in
     let split : offset + (length rest - 1) ≡ length strings - 1 = omega (arith, len, lt) in
-    let zero_last : is_zero (get_or rest (length rest - 1) 0) ≡ true =
+    let zero_last : ends_name (get_or rest (length rest - 1) 0) ≡ true =
     eq-eqb (get_or rest (length rest - 1) 0) 0 (get_or-drop offset strings (length rest - 1) 0 ∙ ap (λ (n : ℕ). get_or strings n 0) split ∙ last) in
-    let first = position_or_len is_zero rest in
-    let before : first ≤ length rest - 1 = first_not_after is_zero rest (length rest - 1) 0 zero_last in
+    let first = position_or_len ends_name rest in
+    let before : first ≤ length rest - 1 = first_not_after ends_name rest (length rest - 1) 0 zero_last in
     let inside : first < length rest = omega (arith, before, len, lt) in
-    let zero_there : get_or rest first 0 ≡ 0 = eqb-true (get_or rest first 0) 0 (passes_at_first is_zero rest 0 inside) in
+    let zero_there : get_or rest first 0 ≡ 0 = eqb-true (get_or rest first 0) 0 (passes_at_first ends_name rest 0 inside) in
     let place : length (take first rest) ≡ first = length-take-le first rest (omega (arith, inside)) in
     ap (λ (n : ℕ). slice_get strings (offset + n)) place
     ∙ slice_get-get_or strings (offset + first) 0 (omega (arith, inside, len))
@@ -69,7 +69,7 @@ empty_is [] none = refl
 empty_is (s ∷ ss) none = absurd (omega (arith, none))
 
 -- in a string table a name that begins in it ends
-ends : (strings : List ℕ) (offset : ℕ) → is_string_table strings ≡ true → is_name strings offset ≡ true → Ends strings offset
+ends : (strings : List ℕ) (offset : ℕ) → is_string_table strings ≡ true → is_name_offset strings offset ≡ true → Ends strings offset
 unfolding is_string_table
 ends strings offset table name =
     ⊎_elim
@@ -77,14 +77,14 @@ ends strings offset table name =
     let empty : length strings ≡ 0 = eqb-true (length strings) 0 none in
     inl (empty_is strings empty, ⊎_elim (λ zero_is. eqb-true offset 0 zero_is) (λ lt. absurd (omega (arith, ltb-true offset (length strings) lt, empty))) (or_cases (offset == 0) (nat_lt offset (length strings)) name)))
     (λ both.
-    let parts = and_parts (is_zero (slice_index strings 0)) (is_zero (slice_index strings (length strings - 1))) both in
+    let parts = and_parts (ends_name (slice_index strings 0)) (ends_name (slice_index strings (length strings - 1))) both in
     ⊎_elim
     (λ empty. inl (empty, ⊎_elim (λ zero_is. eqb-true offset 0 zero_is) (λ lt. absurd (omega (arith, ltb-true offset (length strings) lt, ap length empty))) (or_cases (offset == 0) (nat_lt offset (length strings)) name)))
     (λ some. inr (name_ends strings offset
     (⊎_elim (λ zero_is. omega (arith, some, eqb-true offset 0 zero_is)) (λ lt. ltb-true offset (length strings) lt) (or_cases (offset == 0) (nat_lt offset (length strings)) name))
     (eqb-true (slice_index strings (length strings - 1)) 0 parts.1)))
     (none_or_some strings))
-    (or_cases (length strings == 0) (is_zero (slice_index strings 0) && is_zero (slice_index strings (length strings - 1))) table)
+    (or_cases (length strings == 0) (ends_name (slice_index strings 0) && ends_name (slice_index strings (length strings - 1))) table)
   where
     none_or_some : (xs : List ℕ) → (xs ≡ []) ⊎ (0 < length xs)
     none_or_some [] = inl refl
@@ -114,10 +114,10 @@ names_end : (names : Option (List ℕ)) (sections : List SectionHeader) → name
 unfolding name_error
 names_end None sections none table index s at = cc
 names_end (Some strings) sections none table index s at =
-    let errors = all_none (when false BadNameTable ∷ option_map BadSectionName (position (λ t. not (is_name strings t.name)) sections) ∷ []) none in
-    let each = none_passes (λ (t : SectionHeader). not (is_name strings t.name)) sections s (map_none BadSectionName (position (λ t. not (is_name strings t.name)) sections) errors.1.0) index (slice_get_within sections index s at) in
+    let errors = all_none (error_when false BadNameTable ∷ option_map BadSectionName (position (λ t. not (is_name_offset strings t.name)) sections) ∷ []) none in
+    let each = none_passes (λ (t : SectionHeader). not (is_name_offset strings t.name)) sections s (map_none BadSectionName (position (λ t. not (is_name_offset strings t.name)) sections) errors.1.0) index (slice_get_within sections index s at) in
     let here = get_or_from_slice_get sections index s s at in
-    ends strings s.name (table strings refl) (ap (λ (t : SectionHeader). is_name strings t.name) (sym here) ∙ not-false (is_name strings (get_or sections index s).name) each)
+    ends strings s.name (table strings refl) (ap (λ (t : SectionHeader). is_name_offset strings t.name) (sym here) ∙ not-false (is_name_offset strings (get_or sections index s).name) each)
 
 pub section_names_end : (bytes : List ℕ) (o : Object) (index : ℕ) (s : SectionHeader) → IsObject bytes o → slice_get o.sections index ≡ Some s → Ends (unwrap_or (name_table o) []) s.name
 section_names_end bytes o index s is at =
@@ -130,13 +130,13 @@ section_names_end bytes o index s is at =
 symbols_end : (names : List ℕ) (all : List Symbol) → symbol_error names all ≡ None → is_string_table names ≡ true → (index : ℕ) (s : Symbol) → slice_get all index ≡ Some s → Ends names s.name
 unfolding symbol_error
 symbols_end names all none table index s at =
-    let each = none_passes (λ (t : Symbol). not (is_name names t.name)) all s (map_none BadSymbolName (position (λ t. not (is_name names t.name)) all) none) index (slice_get_within all index s at) in
+    let each = none_passes (λ (t : Symbol). not (is_name_offset names t.name)) all s (map_none BadSymbolName (position (λ t. not (is_name_offset names t.name)) all) none) index (slice_get_within all index s at) in
     let here = get_or_from_slice_get all index s s at in
-    ends names s.name table (ap (λ (t : Symbol). is_name names t.name) (sym here) ∙ not-false (is_name names (get_or all index s).name) each)
+    ends names s.name table (ap (λ (t : Symbol). is_name_offset names t.name) (sym here) ∙ not-false (is_name_offset names (get_or all index s).name) each)
 
 -- the string table of a symbol table that is not malformed
 symbol_strings : (bytes : List ℕ) (sections : List SectionHeader) (table : Option SectionHeader)
-    → option_and_then (λ s. when (is_malformed bytes sections s) BadSymbolTable) table ≡ None → is_string_table (symbol_names_of bytes sections table) ≡ true
+    → option_and_then (λ s. error_when (is_malformed bytes sections s) BadSymbolTable) table ≡ None → is_string_table (symbol_names_of bytes sections table) ≡ true
 unfolding is_malformed is_string_table
 symbol_strings bytes sections None none = refl
 symbol_strings bytes sections (Some s) none =
@@ -155,5 +155,5 @@ symbol_names_end bytes o index s is at =
     symbols_end (symbol_names o) (symbols o)
     (ap (λ (x : Object). symbol_error (symbol_names x) (symbols x)) is.object ∙ old.1.1.1.1.1.1.0)
     (symbol_strings o.bytes o.sections (symbol_table o.sections)
-    (ap (λ (x : Object). option_and_then (λ t. when (is_malformed x.bytes x.sections t) BadSymbolTable) (symbol_table x.sections)) is.object ∙ old.1.1.1.1.1.0))
+    (ap (λ (x : Object). option_and_then (λ t. error_when (is_malformed x.bytes x.sections t) BadSymbolTable) (symbol_table x.sections)) is.object ∙ old.1.1.1.1.1.0))
     index s at

@@ -4,9 +4,9 @@ use Rattle.std.specs.Prelude.{nat_lt, ◌==◌, ◌&&◌, ◌||◌, not, positio
 use Rattle.std.specs.List.{position_or_len}
 use Rattle.std.proofs.lemmas.Bool.{ltb-false, lt-ltb, le-ltb, eq-eqb, eqb-true, and_cases, and_left, and_right, or_parts, or_from, cases_Bool, both_ways, cond-true, cases_lt, not-false}
 use Rattle.std.proofs.lemmas.List.Sums.{position_or_len_is, fails_before_first}
-use Rattle.btf_elf_model.specs.Header.{header_len}
+use Rattle.btf_elf_model.specs.Header.{file_header_len}
 use Rattle.btf_elf_model.specs.Section.{section_count, table_end, has_bytes, is_past_end, is_over_headers}
-use Rattle.btf_elf_model.specs.Object.{first_error, when, table_error, section_error}
+use Rattle.btf_elf_model.specs.Object.{first_error, error_when, table_error, section_error}
 use Rattle.btf_elf_model.specs.declared.file_header.FileHeader.{FileHeader}
 use Rattle.btf_elf_model.specs.declared.section_header.SectionHeader.{SectionHeader}
 use Rattle.btf_elf_model.specs.declared.error.ParseError.TheVariants.{SectionTableOutOfRange, SectionOutOfRange, SectionOverHeaders}
@@ -42,23 +42,23 @@ past_not len s le =
 
 -- A section with bytes is after the file header, and before or after the section header table.
 abbrev pub IsClear : ℕ → ℕ → ℕ → ℕ → Type 0
-IsClear table end offset size = 0 < size → (header_len ≤ offset) × ((end ≤ offset) ⊎ (offset + size ≤ table))
+IsClear table end offset size = 0 < size → (file_header_len ≤ offset) × ((end ≤ offset) ⊎ (offset + size ≤ table))
 
 over : ℕ → ℕ → ℕ → ℕ → Bool
-over table end offset size = nat_lt offset header_len || (nat_lt offset end && nat_lt table (offset + size))
+over table end offset size = nat_lt offset file_header_len || (nat_lt offset end && nat_lt table (offset + size))
 
-is_clear_of : (table end offset size : ℕ) → over table end offset size ≡ false → (header_len ≤ offset) × ((end ≤ offset) ⊎ (offset + size ≤ table))
+is_clear_of : (table end offset size : ℕ) → over table end offset size ≡ false → (file_header_len ≤ offset) × ((end ≤ offset) ⊎ (offset + size ≤ table))
 unfolding over
 is_clear_of table end offset size none =
-    let parts = or_parts (nat_lt offset header_len) (nat_lt offset end && nat_lt table (offset + size)) none in (
-      ltb-false offset header_len parts.0,
+    let parts = or_parts (nat_lt offset file_header_len) (nat_lt offset end && nat_lt table (offset + size)) none in (
+      ltb-false offset file_header_len parts.0,
       ⊎_elim (λ e. inl (ltb-false offset end e)) (λ e. inr (ltb-false table (offset + size) e)) (and_cases (nat_lt offset end) (nat_lt table (offset + size)) parts.1),
     )
 
-over_clear : (table end offset size : ℕ) → (header_len ≤ offset) × ((end ≤ offset) ⊎ (offset + size ≤ table)) → over table end offset size ≡ false
+over_clear : (table end offset size : ℕ) → (file_header_len ≤ offset) × ((end ≤ offset) ⊎ (offset + size ≤ table)) → over table end offset size ≡ false
 unfolding over
 over_clear table end offset size p =
-    or_from (nat_lt offset header_len) (nat_lt offset end && nat_lt table (offset + size)) (le-ltb offset header_len p.0)
+    or_from (nat_lt offset file_header_len) (nat_lt offset end && nat_lt table (offset + size)) (le-ltb offset file_header_len p.0)
     (⊎_elim (λ le. and_left (nat_lt offset end) (nat_lt table (offset + size)) (le-ltb offset end le))
     (λ le. and_right (nat_lt offset end) (nat_lt table (offset + size)) (le-ltb table (offset + size) le)) p.1)
 
@@ -82,7 +82,7 @@ over_not table end s clear =
 
 -- where the table of section headers is
 pub record TableFits (h : FileHeader) (bytes : List ℕ) : Type 0 where
-  pub behind : header_len ≤ h.section_headers
+  pub behind : file_header_len ≤ h.section_headers
   pub within : table_end h bytes ≤ length bytes
 
 has_table : (h : FileHeader) (bytes : List ℕ) → 0 < section_count h bytes → h.section_headers ≢ 0
@@ -94,12 +94,12 @@ has_table h bytes some none_is =
 pub table_fits : (h : FileHeader) (bytes : List ℕ) → table_error h bytes ≡ None → 0 < section_count h bytes → TableFits h bytes
 unfolding table_error
 table_fits h bytes none some =
-    let test = when_none (not (h.section_headers == 0) && (nat_lt h.section_headers header_len || nat_lt (length bytes) (table_end h bytes))) SectionTableOutOfRange none in
+    let test = when_none (not (h.section_headers == 0) && (nat_lt h.section_headers file_header_len || nat_lt (length bytes) (table_end h bytes))) SectionTableOutOfRange none in
     ⊎_elim
     (λ e. absurd (eqb-false-of h.section_headers (has_table h bytes some) (not-false (h.section_headers == 0) e)))
-    (λ e. let parts = or_parts (nat_lt h.section_headers header_len) (nat_lt (length bytes) (table_end h bytes)) e in
-    record { behind = ltb-false h.section_headers header_len parts.0; within = ltb-false (length bytes) (table_end h bytes) parts.1 })
-    (and_cases (not (h.section_headers == 0)) (nat_lt h.section_headers header_len || nat_lt (length bytes) (table_end h bytes)) test)
+    (λ e. let parts = or_parts (nat_lt h.section_headers file_header_len) (nat_lt (length bytes) (table_end h bytes)) e in
+    record { behind = ltb-false h.section_headers file_header_len parts.0; within = ltb-false (length bytes) (table_end h bytes) parts.1 })
+    (and_cases (not (h.section_headers == 0)) (nat_lt h.section_headers file_header_len || nat_lt (length bytes) (table_end h bytes)) test)
   where
     eqb-false-of : (n : ℕ) → n ≢ 0 → (n == 0) ≡ true → ⊥
     eqb-false-of n ne is = ne (eqb-true n 0 is)
@@ -107,9 +107,9 @@ table_fits h bytes none some =
 pub fits_table : (h : FileHeader) (bytes : List ℕ) → TableFits h bytes → table_error h bytes ≡ None
 unfolding table_error
 fits_table h bytes f =
-    let inside : (nat_lt h.section_headers header_len || nat_lt (length bytes) (table_end h bytes)) ≡ false =
-    or_from (nat_lt h.section_headers header_len) (nat_lt (length bytes) (table_end h bytes)) (le-ltb h.section_headers header_len f.behind) (le-ltb (length bytes) (table_end h bytes) f.within) in
-    ap (λ (b : Bool). when b SectionTableOutOfRange) (and_right (not (h.section_headers == 0)) _ inside)
+    let inside : (nat_lt h.section_headers file_header_len || nat_lt (length bytes) (table_end h bytes)) ≡ false =
+    or_from (nat_lt h.section_headers file_header_len) (nat_lt (length bytes) (table_end h bytes)) (le-ltb h.section_headers file_header_len f.behind) (le-ltb (length bytes) (table_end h bytes) f.within) in
+    ap (λ (b : Bool). error_when b SectionTableOutOfRange) (and_right (not (h.section_headers == 0)) _ inside)
 
 -- the tests of each section
 pub record SectionsFit (h : FileHeader) (bytes : List ℕ) (sections : List SectionHeader) : Type 0 where

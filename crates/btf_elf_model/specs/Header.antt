@@ -21,16 +21,16 @@ abbrev pub magic : List ℕ
 magic = 0x7f ∷ 0x45 ∷ 0x4c ∷ 0x46 ∷ []
 
 -- the length of the file header in bytes, and that of a section header
-abbrev pub header_len : ℕ
-header_len = 64
+abbrev pub file_header_len : ℕ
+file_header_len = 64
 
 -- EI_CLASS: 2, ELFCLASS64, for 64-bit objects
 abbrev pub class_of : List ℕ → ℕ
 class_of bytes = slice_index bytes 4
 
 -- EI_DATA: 1, ELFDATA2LSB, for little-endian words; 2, ELFDATA2MSB, for big-endian ones
-abbrev pub encoding_of : List ℕ → ℕ
-encoding_of bytes = slice_index bytes 5
+abbrev pub elf_encoding : List ℕ → ℕ
+elf_encoding bytes = slice_index bytes 5
 
 -- EI_VERSION: 1, EV_CURRENT
 abbrev pub identification_version : List ℕ → ℕ
@@ -38,7 +38,7 @@ identification_version bytes = slice_index bytes 6
 
 -- the byte order of all words of an object
 abbrev pub order_of : List ℕ → Endianness
-order_of bytes = if encoding_of bytes == 2 then Big else Little
+order_of bytes = if elf_encoding bytes == 2 then Big else Little
 
 -- the file header that bytes begin with, in a byte order
 abbrev pub header_in : Endianness → List ℕ → FileHeader
@@ -63,7 +63,7 @@ header_in order bytes = record {
 
 -- the first 64 bytes
 abbrev pub front : List ℕ → List ℕ
-front bytes = take header_len bytes
+front bytes = take file_header_len bytes
 
 -- the file header that bytes begin with, in their own byte order
 unfoldable pub file_header : List ℕ → FileHeader

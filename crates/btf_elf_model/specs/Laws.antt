@@ -1,6 +1,6 @@
 -- The laws of the definitions. Each is the contract of a public function of this crate.
 use Rattle.std.specs.Prelude.{◌≡◌, ◌⊎◌, ℕ, ◌+◌, ◌<◌, ◌≤◌, true, List, [], length, slice_get, Some, unwrap_or}
-use Rattle.btf_elf_model.specs.Header.{header_len}
+use Rattle.btf_elf_model.specs.Header.{file_header_len}
 use Rattle.btf_elf_model.specs.Section.{has_bytes, table_end, name_at}
 use Rattle.btf_elf_model.specs.Object.{Object, IsObject, IsParseError, name_table, symbols, symbol_names}
 use Rattle.btf_elf_model.specs.declared.section_header.SectionHeader.{SectionHeader}
@@ -26,7 +26,7 @@ pub record ObjectIsSound : Type 0 where
       → slice_get o.sections index ≡ Some s → has_bytes s ≡ true → s.offset + s.size ≤ length bytes
   pub headers_are_apart : (bytes : List ℕ) (o : Object) (index : ℕ) (s : SectionHeader) → IsObject bytes o
       → slice_get o.sections index ≡ Some s → has_bytes s ≡ true → 0 < s.size
-      → (header_len ≤ s.offset)
+      → (file_header_len ≤ s.offset)
       × ((table_end o.header bytes ≤ s.offset) ⊎ (s.offset + s.size ≤ o.header.section_headers))
   pub section_names_end : (bytes : List ℕ) (o : Object) (index : ℕ) (s : SectionHeader) → IsObject bytes o
       → slice_get o.sections index ≡ Some s → Ends (unwrap_or (name_table o) []) s.name

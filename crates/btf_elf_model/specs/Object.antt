@@ -4,8 +4,8 @@
 use Rattle.std.specs.Prelude.{◌≡◌, ℕ, ◌==◌, ◌||◌, ◌&&◌, not, nat_eq, nat_lt, Bool, List, [], ◌∷◌, length, position, if◌then◌else◌, Option, Some, None, is_none, option_map, unwrap_or}
 use Rattle.std.specs.List.{starts_with}
 use Rattle.std.specs.Option.{option_and_then}
-use Rattle.btf_elf_model.specs.Header.{magic, header_len, class_of, encoding_of, identification_version, front, file_header}
-use Rattle.btf_elf_model.specs.Section.{table_end, sections_of, contents, is_past_end, is_over_headers, is_name, name_at, string_table, names_index}
+use Rattle.btf_elf_model.specs.Header.{magic, file_header_len, class_of, elf_encoding, identification_version, front, file_header}
+use Rattle.btf_elf_model.specs.Section.{table_end, sections_of, contents, is_past_end, is_over_headers, is_name_offset, name_at, string_table, names_index}
 use Rattle.btf_elf_model.specs.Symbols.{symbol_table, is_malformed, symbols_of, symbol_names_of}
 use Rattle.btf_elf_model.specs.declared.file_header.FileHeader.{FileHeader}
 use Rattle.btf_elf_model.specs.declared.section_header.SectionHeader.{SectionHeader}
@@ -54,8 +54,8 @@ symbol_name o s = name_at (symbol_names o) s.name
 -- ---- errors
 
 -- the error if the test holds, else none
-abbrev pub when : Bool → ParseError → Option ParseError
-when holds e = if holds then Some e else None
+abbrev pub error_when : Bool → ParseError → Option ParseError
+error_when holds e = if holds then Some e else None
 
 -- the first of several errors
 abbrev pub first_error : List (Option ParseError) → Option ParseError
@@ -67,25 +67,25 @@ first_error (None ∷ more) = first_error more
 -- read.
 unfoldable pub identification_error : List ℕ → Option ParseError
 identification_error header = first_error (
-    when (nat_lt (length header) header_len || not (starts_with nat_eq header magic)) NotElf
-    ∷ when (not (class_of header == 2)) (UnsupportedClass (class_of header))
-    ∷ when (not (encoding_of header == 1) && not (encoding_of header == 2)) (UnsupportedEncoding (encoding_of header))
-    ∷ when (not (identification_version header == 1)) UnsupportedVersion
+    error_when (nat_lt (length header) file_header_len || not (starts_with nat_eq header magic)) NotElf
+    ∷ error_when (not (class_of header == 2)) (UnsupportedClass (class_of header))
+    ∷ error_when (not (elf_encoding header == 1) && not (elf_encoding header == 2)) (UnsupportedEncoding (elf_encoding header))
+    ∷ error_when (not (identification_version header == 1)) UnsupportedVersion
     ∷ [])
 
 -- The first error of the other words of the file header.
 unfoldable pub header_error : FileHeader → Option ParseError
 header_error h = first_error (
-    when (not (h.version == 1)) UnsupportedVersion
-    ∷ when (not (h.header_size == 64) || (not (h.section_headers == 0) && not (h.section_header_size == 64)))
+    error_when (not (h.version == 1)) UnsupportedVersion
+    ∷ error_when (not (h.header_size == 64) || (not (h.section_headers == 0) && not (h.section_header_size == 64)))
     BadHeaderSize
     ∷ [])
 
 -- The table of section headers begins in the file header, or ends after the end of the bytes.
 unfoldable pub table_error : FileHeader → List ℕ → Option ParseError
 table_error h bytes =
-    when (not (h.section_headers == 0)
-    && (nat_lt h.section_headers header_len || nat_lt (length bytes) (table_end h bytes)))
+    error_when (not (h.section_headers == 0)
+    && (nat_lt h.section_headers file_header_len || nat_lt (length bytes) (table_end h bytes)))
     SectionTableOutOfRange
 
 -- The first section that ends after the end of the bytes, or else the first that overlaps a header.
@@ -98,18 +98,18 @@ section_error h bytes sections = first_error (
 -- There is no table of section names, or else the first section whose name does not begin in it.
 unfoldable pub name_error : Option (List ℕ) → List SectionHeader → Option ParseError
 name_error names sections = first_error (
-    when (is_none names) BadNameTable
-    ∷ option_map BadSectionName (position (λ s. not (is_name (unwrap_or names []) s.name)) sections)
+    error_when (is_none names) BadNameTable
+    ∷ option_map BadSectionName (position (λ s. not (is_name_offset (unwrap_or names []) s.name)) sections)
     ∷ [])
 
 -- The symbol table is malformed.
 unfoldable pub symbol_table_error : List ℕ → List SectionHeader → Option ParseError
 symbol_table_error bytes sections =
-    option_and_then (λ s. when (is_malformed bytes sections s) BadSymbolTable) (symbol_table sections)
+    option_and_then (λ s. error_when (is_malformed bytes sections s) BadSymbolTable) (symbol_table sections)
 
 -- The first symbol whose name does not begin in the string table.
 unfoldable pub symbol_error : List ℕ → List Symbol → Option ParseError
-symbol_error names symbols = option_map BadSymbolName (position (λ s. not (is_name names s.name)) symbols)
+symbol_error names symbols = option_map BadSymbolName (position (λ s. not (is_name_offset names s.name)) symbols)
 
 -- The first error of bytes; none if they are an object.
 unfoldable pub parse_error : List ℕ → Option ParseError

@@ -4,7 +4,7 @@
 use Rattle.std.specs.Prelude.{◌≡◌, ◌≢◌, ◌⊎◌, ℕ, ◌+◌, ◌-◌, ◌*◌, ◌%◌, ◌<◌, ◌≤◌, ◌==◌, ◌&&◌, not, nat_lt, nat_le, max, min, Bool, List, length, remove, replicate, slice_get, slice_set, if◌then◌else◌, Some}
 use Rattle.std.specs.List.{list_any}
 use Rattle.btf_model.specs.Blob.{slice}
-use Rattle.btf_elf_model.specs.Header.{header_len}
+use Rattle.btf_elf_model.specs.Header.{file_header_len}
 use Rattle.btf_elf_model.specs.Section.{has_bytes, sht_symtab, sht_strtab}
 use Rattle.btf_elf_model.specs.Object.{Object, section_bytes, name_table, symbols, symbol_names}
 use Rattle.btf_elf_model.specs.declared.section_header.SectionHeader.{SectionHeader}
@@ -44,12 +44,12 @@ abbrev pub gap_len : Object → ℕ → SectionHeader → ℕ → ℕ
 gap_len o index s len = place o index s len - length o.bytes
 
 -- the header of a section that is at another offset, with another size
-abbrev pub moved : ℕ → ℕ → SectionHeader → SectionHeader
-moved offset size s = record s { offset = offset; size = size }
+abbrev pub moved_header : ℕ → ℕ → SectionHeader → SectionHeader
+moved_header offset size s = record s { offset = offset; size = size }
 
 -- the file offset of sh_offset and sh_size of a section, which are the two words of its header that change
 abbrev pub place_in_header : Object → ℕ → ℕ
-place_in_header o index = o.header.section_headers + header_len * index + 24
+place_in_header o index = o.header.section_headers + file_header_len * index + 24
 
 -- The len bytes from an offset on share no byte with another range.
 abbrev pub Apart : ℕ → ℕ → ℕ → ℕ → Type 0
@@ -58,8 +58,8 @@ Apart at len other size = 0 < len → 0 < size → (at + len ≤ other) ⊎ (oth
 -- The new object is the old one with these bytes in a section, whose header was s.
 pub record ReplacesSection (old : Object) (index : ℕ) (s : SectionHeader) (given : List ℕ) (new : Object) : Type 0 where
   pub header : new.header ≡ old.header
-  pub sections : new.sections ≡ slice_set old.sections index (moved (place old index s (length given)) (length given) s)
-  pub replaced : section_bytes new (moved (place old index s (length given)) (length given) s) ≡ given
+  pub sections : new.sections ≡ slice_set old.sections index (moved_header (place old index s (length given)) (length given) s)
+  pub replaced : section_bytes new (moved_header (place old index s (length given)) (length given) s) ≡ given
   pub others : (other : ℕ) (t : SectionHeader) → other ≢ index → slice_get old.sections other ≡ Some t
       → section_bytes new t ≡ section_bytes old t
   pub names : name_table new ≡ name_table old

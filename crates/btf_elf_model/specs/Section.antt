@@ -6,7 +6,7 @@ use Rattle.std.specs.Option.{option_and_then}
 use Rattle.std.specs.Simd.{first_chunks}
 use Rattle.btf_model.specs.Blob.{slice, word_at}
 use Rattle.btf_model.specs.declared.endianness.Endianness.{Endianness}
-use Rattle.btf_elf_model.specs.Header.{xword_at, header_len, file_header}
+use Rattle.btf_elf_model.specs.Header.{xword_at, file_header_len, file_header}
 use Rattle.btf_elf_model.specs.declared.file_header.FileHeader.{FileHeader}
 use Rattle.btf_elf_model.specs.declared.section_header.SectionHeader.{SectionHeader}
 
@@ -27,11 +27,11 @@ section_header order entry = record {
 
 -- the first section headers, as many as these, of a table that begins at e_shoff
 unfoldable pub headers_of : FileHeader → ℕ → List ℕ → List SectionHeader
-headers_of h count bytes = map (section_header h.order) (first_chunks header_len count (drop h.section_headers bytes))
+headers_of h count bytes = map (section_header h.order) (first_chunks file_header_len count (drop h.section_headers bytes))
 
 -- sh_size of section 0
 abbrev pub size_of_first : FileHeader → List ℕ → ℕ
-size_of_first h bytes = (section_header h.order (slice h.section_headers header_len bytes)).size
+size_of_first h bytes = (section_header h.order (slice h.section_headers file_header_len bytes)).size
 
 -- The number of sections: 0 without a table of section headers; else e_shnum, or sh_size of section 0 if e_shnum is 0.
 unfoldable pub section_count : FileHeader → List ℕ → ℕ
@@ -41,7 +41,7 @@ section_count h bytes =
 
 -- the end of the table of section headers, which has at least the header of section 0
 abbrev pub table_end : FileHeader → List ℕ → ℕ
-table_end h bytes = h.section_headers + header_len * max 1 (section_count h bytes)
+table_end h bytes = h.section_headers + file_header_len * max 1 (section_count h bytes)
 
 -- the section headers of bytes
 unfoldable pub sections_of : List ℕ → List SectionHeader
@@ -78,26 +78,26 @@ is_past_end len s = has_bytes s && nat_lt len (s.offset + s.size)
 unfoldable pub is_over_headers : ℕ → ℕ → SectionHeader → Bool
 is_over_headers table end s =
     has_bytes s && nat_lt 0 s.size
-    && (nat_lt s.offset header_len || (nat_lt s.offset end && nat_lt table (s.offset + s.size)))
+    && (nat_lt s.offset file_header_len || (nat_lt s.offset end && nat_lt table (s.offset + s.size)))
 
 -- ---- string tables
 
 -- the byte that ends a name
-abbrev pub is_zero : ℕ → Bool
-is_zero byte = byte == 0
+abbrev pub ends_name : ℕ → Bool
+ends_name byte = byte == 0
 
 -- A string table is empty, or begins and ends with a zero byte.
 unfoldable pub is_string_table : List ℕ → Bool
 is_string_table strings =
-    (length strings == 0) || (is_zero (slice_index strings 0) && is_zero (slice_index strings (length strings - 1)))
+    (length strings == 0) || (ends_name (slice_index strings 0) && ends_name (slice_index strings (length strings - 1)))
 
 -- A name begins at the offset: the offset is within the table, or it is 0, which is the empty name in an empty table.
-abbrev pub is_name : List ℕ → ℕ → Bool
-is_name strings offset = (offset == 0) || nat_lt offset (length strings)
+abbrev pub is_name_offset : List ℕ → ℕ → Bool
+is_name_offset strings offset = (offset == 0) || nat_lt offset (length strings)
 
 -- the name at an offset: the bytes from there up to the first zero byte
 unfoldable pub name_at : List ℕ → ℕ → List ℕ
-name_at strings offset = before_first is_zero (drop offset strings)
+name_at strings offset = before_first ends_name (drop offset strings)
 
 -- the string table in a section; none if the section has another type, or its bytes are no string table
 abbrev pub strings_in : List ℕ → SectionHeader → Option (List ℕ)

@@ -4,7 +4,7 @@ use Rattle.std.specs.Prelude.{IfSome}
 use Rattle.std.proofs.lemmas.Option.{IfSome_then}
 use Rattle.btf_model.specs.declared.endianness.Endianness.{Endianness}
 use Rattle.btf_model.specs.Text.{text_at}
-use Rattle.btf_model.specs.Ext.{Section, SectionBytes, Named, Sections, BeginsWith, BeginsNoSection, IsSection, HaveNames, AreNamed, AreSections, sections_of, section_bytes, cut_refusal}
+use Rattle.btf_model.specs.Ext.{Section, SectionBytes, Named, Sections, BeginsWith, BeginsNoSection, IsSection, HaveNames, AreNamed, AreSections, sections_of, ext_section_bytes, cut_refusal}
 use Rattle.btf_model.proofs.Sections.{begins_push, sections_from_none}
 use Rattle.btf_plain.specs.declared.error.BtfError.{BtfError}
 use Rattle.btf_plain.specs.Error.{refusal_of}
@@ -23,7 +23,7 @@ pub cut_one : (order : Endianness) (size : ℕ) (bytes : List ℕ) (sections : L
 cut_one order size bytes sections rest next s h g =
     let o : next.order ≡ order = sym (ap (λ (r : SectionBytes). r.order) g.1) ∙ h.order_is in
     let n : next.size ≡ size = sym (ap (λ (r : SectionBytes). r.size) g.1) ∙ h.size_is in
-    let b : rest.bytes ≡ section_bytes order (section_of s) ++ next.bytes = ap (λ (r : SectionBytes). r.bytes) g.1 ∙ ap (λ (x : Endianness). section_bytes x (section_of s) ++ next.bytes) h.order_is in
+    let b : rest.bytes ≡ ext_section_bytes order (section_of s) ++ next.bytes = ap (λ (r : SectionBytes). r.bytes) g.1 ∙ ap (λ (x : Endianness). ext_section_bytes x (section_of s) ++ next.bytes) h.order_is in
     record {
       order_is = o;
       size_is = n;

@@ -10,8 +10,8 @@ abbrev pub range : Range → model.Range
 range r = record { start = r.hdr_len + r.offset; len = r.len; least = r.least }
 
 -- a header of the code, in the model's terms
-abbrev pub header : Header → model.Header
-header h = record { func = range h.func; line = range h.line; core = range h.core }
+abbrev pub ext_header : Header → model.HeaderOfExt
+ext_header h = record { func = range h.func; line = range h.line; core = range h.core }
 
 -- a part of the code, in the model's terms
 abbrev pub part : Part → model.Part

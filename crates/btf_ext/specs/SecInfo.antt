@@ -1,6 +1,6 @@
 -- A `SecInfo` and the iterator `SecInfoIter` in the model's terms, and sections whose names can be read.
 use Rattle.std.specs.Prelude.{◌≡◌, ◌≢◌, ℕ, List, [], ◌++◌, Option, Some, None, Result, Ok, Err}
-use Rattle.btf_model.specs.Ext.{Section, SectionBytes, Named, IsSection, BeginsNoSection, AreNamed, section_bytes, sections_of, cut_refusal}
+use Rattle.btf_model.specs.Ext.{Section, SectionBytes, Named, IsSection, BeginsNoSection, AreNamed, ext_section_bytes, sections_of, cut_refusal}
 use Rattle.btf_model.specs.Refusal.{Refusal}
 use Rattle.btf_model.specs.declared.endianness.Endianness.{Endianness}
 use Rattle.btf_plain.specs.declared.error.BtfError.{BtfError}
@@ -17,7 +17,7 @@ abbrev pub GivesSection : SectionBytes → Option (Result SecInfo BtfError) → 
 GivesSection before None after = (before.bytes ≡ []) × (after ≡ before)
 GivesSection before (Some (Ok s)) after =
     IsSection before.size (section_of s)
-    × (before ≡ record after { bytes = section_bytes before.order (section_of s) ++ after.bytes })
+    × (before ≡ record after { bytes = ext_section_bytes before.order (section_of s) ++ after.bytes })
 GivesSection before (Some (Err e)) after =
     (before.bytes ≢ []) × BeginsNoSection before.order before.size before.bytes
     × (refusal_of e ≡ Some (cut_refusal before.order before.size before.bytes))

@@ -3,7 +3,7 @@
 ghost use Rattle.std.specs.Prelude.{◌≡◌, ◌++◌, ◌-◌, ◌≤◌, length, replicate, MatchOption};
 ghost use Rattle.btf_model.specs.Ext.{HasHeader, HasPart, IsRange, part_of, header_words};
 ghost use Rattle.btf_plain.specs.Error.{Meets};
-ghost use Rattle.btf_ext.specs.ExtHeader.{header, range, part};
+ghost use Rattle.btf_ext.specs.ExtHeader.{ext_header, range, part};
 
 use crate::words::word_at;
 use btf_plain::{BtfError, Endianness};
@@ -45,7 +45,7 @@ impl Header {
     /// The header at the start of data. The fields that a header shorter than 32 bytes leaves out are 0. If there are
     /// fewer than 8 bytes, or fewer than the header's length, the error is `InvalidHeader`.
     pub fn read(data: &[u8], endianness: Endianness) -> Result<Header, BtfError>
-        ensures { Meets header result (HasHeader endianness «data».now) }
+        ensures { Meets ext_header result (HasHeader endianness «data».now) }
     {
         if data.len() < MINIMAL_LEN {
             return Err(BtfError::InvalidHeader);
@@ -60,7 +60,7 @@ impl Header {
 
     /// The header in these bytes.
     fn of_bytes(bytes: &[u8; 32], endianness: Endianness) -> Header
-        ensures { header result ≡ header_words endianness bytes.now }
+        ensures { ext_header result ≡ header_words endianness bytes.now }
     {
         let word = |at: usize| word_at(bytes, at, endianness);
         let hdr_len = word(4);

@@ -2,7 +2,7 @@
 
 ghost use Rattle.std.specs.Prelude.{◌≡◌, ◌<◌, ◌≤◌, ◌++◌, length, drop, Some, MatchOption, MatchResult};
 ghost use Rattle.btf_model.specs.Blob.{word_at};
-ghost use Rattle.btf_model.specs.Ext.{IsSection, BeginsNoSection, section_bytes, cut_refusal};
+ghost use Rattle.btf_model.specs.Ext.{IsSection, BeginsNoSection, ext_section_bytes, cut_refusal};
 ghost use Rattle.btf_plain.specs.Error.{refusal_of};
 ghost use Rattle.btf_ext.specs.SecInfo.{section_of};
 
@@ -118,7 +118,7 @@ fn split_section(
 ) -> Result<(SecInfo<'_>, &[u8]), BtfError>
     ensures { MatchResult result
         (λ x. IsSection rec_size (section_of x.0)
-        × (bytes.now ≡ section_bytes endianness (section_of x.0) ++ x.1.now))
+        × (bytes.now ≡ ext_section_bytes endianness (section_of x.0) ++ x.1.now))
         (λ e. BeginsNoSection endianness rec_size bytes.now
         × (refusal_of e ≡ Some (cut_refusal endianness rec_size bytes.now))) }
 {

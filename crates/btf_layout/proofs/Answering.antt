@@ -10,7 +10,7 @@ use Rattle.btf_layout.specs.declared.progress.Outcome.{Outcome}
 use Rattle.btf_layout.specs.declared.progress.Outcome.TheVariants.{Aligned, Unknown, Unexpected, Endless}
 use Rattle.btf_layout.specs.declared.progress.Progress.{Progress}
 use Rattle.btf_layout.specs.declared.progress.Progress.TheVariants.{New, Open, Known}
-use Rattle.btf_layout.specs.Progress.{progress_or, progress_in, IsOutcome, IsKnown, Knows, NoneOpen, outcome_answer, answer_of}
+use Rattle.btf_layout.specs.Progress.{progress_or, progress_in, IsOutcome, IsKnown, KnowsOutcomes, NoneOpen, outcome_answer, alignment_answer}
 use Rattle.btf_layout.proofs.Knowing.{not_there}
 use Rattle.btf_layout.proofs.Sets.{new_inside, known_same}
 
@@ -36,7 +36,7 @@ new_or_past n id = elim (places n id) [ inl e ↦ inl (ap (progress_or id) e) | 
   places (suc n) (suc k) = elim (places n k) [ inl e ↦ inl e | inr h ↦ inr (omega arith, h.1) ]
 
 module _ (records : List Record) where
-  pub all_new : (known : List Progress) (n : ℕ) → n ≡ length records → known ≡ replicate n New → Knows records known
+  pub all_new : (known : List Progress) (n : ℕ) → n ≡ length records → known ≡ replicate n New → KnowsOutcomes records known
   all_new known n count is = record {
     all = ap (λ (ps : List Progress). length ps) is ∙ length-replicate n New ∙ count;
     outcomes = λ id o e. by id o (new_or_past n id) (sym (ap (λ (ps : List Progress). progress_in ps id) is) ∙ e);
@@ -69,16 +69,16 @@ module _ (records : List Record) where
   answers id (Unexpected n) h = inl h
   answers id Endless h = inr (h, refl)
 
-  pub known_answers : (known : List Progress) → Knows records known → (id : ℕ) → IsKnown (progress_in known id) → HasAlignment records id (answer_of id (progress_in known id))
+  pub known_answers : (known : List Progress) → KnowsOutcomes records known → (id : ℕ) → IsKnown (progress_in known id) → HasAlignment records id (alignment_answer id (progress_in known id))
   known_answers known knows id is = by (progress_in known id) refl is where
-    by : (p : Progress) → progress_in known id ≡ p → IsKnown p → HasAlignment records id (answer_of id p)
+    by : (p : Progress) → progress_in known id ≡ p → IsKnown p → HasAlignment records id (alignment_answer id p)
     by New e h = absurd h
     by Open e h = absurd h
     by (Known o) e h = answers id o (knows.outcomes id o e)
 
-  pub answered : (known : List Progress) → Knows records known → NoneOpen known → ((k : ℕ) → k < length records → IsKnown (progress_in known k)) → (id : ℕ) → HasAlignment records id (answer_of id (progress_in known id))
+  pub answered : (known : List Progress) → KnowsOutcomes records known → NoneOpen known → ((k : ℕ) → k < length records → IsKnown (progress_in known k)) → (id : ℕ) → HasAlignment records id (alignment_answer id (progress_in known id))
   answered known knows closed done id = by (progress_in known id) refl where
-    by : (p : Progress) → progress_in known id ≡ p → HasAlignment records id (answer_of id p)
+    by : (p : Progress) → progress_in known id ≡ p → HasAlignment records id (alignment_answer id p)
     by New e = absurd (subst IsKnown e (done id (subst (λ (n : ℕ). id < n) knows.all (new_inside known id e))))
     by Open e = absurd (closed id e)
     by (Known o) e = answers id o (knows.outcomes id o e)

@@ -9,8 +9,8 @@ use Rattle.btf_layout.specs.declared.progress.Outcome.{Outcome}
 use Rattle.btf_layout.specs.declared.progress.Outcome.TheVariants.{Aligned, Unknown, Unexpected, Endless}
 use Rattle.btf_layout.specs.declared.progress.Progress.{Progress}
 use Rattle.btf_layout.specs.declared.progress.Progress.TheVariants.{New, Open, Known}
-use Rattle.btf_layout.specs.Frame.{step_by, StepIs}
-use Rattle.btf_layout.specs.Progress.{progress_in, IsOutcome, IsKnown, Knows}
+use Rattle.btf_layout.specs.Frame.{step_by_progress, MemberStepIs}
+use Rattle.btf_layout.specs.Progress.{progress_in, IsOutcome, IsKnown, KnowsOutcomes}
 
 -- ---- tests
 
@@ -45,9 +45,9 @@ module _ (records : List Record) (known : List Progress) (id type : ℕ) where
   same_outcome is (Unexpected n) h = Aligns.same_as id type _ is h
   same_outcome is Endless h = endless_before records id type (inl is) h
 
-  pub same_step : Knows records known → shape_in records id ≡ SameAs type → StepIs records known id (step_by type (progress_in known type))
+  pub same_step : KnowsOutcomes records known → shape_in records id ≡ SameAs type → MemberStepIs records known id (step_by_progress type (progress_in known type))
   same_step knows is = by (progress_in known type) refl where
-    by : (p : Progress) → progress_in known type ≡ p → StepIs records known id (step_by type p)
+    by : (p : Progress) → progress_in known type ≡ p → MemberStepIs records known id (step_by_progress type p)
     by New e = (inl is, subst (λ (x : Progress). ¬ (IsKnown x)) (sym e) (λ h. h))
     by Open e = (inl is, subst (λ (x : Progress). ¬ (IsKnown x)) (sym e) (λ h. h))
     by (Known o) e = same_outcome is o (knows.outcomes type o e)

@@ -10,24 +10,24 @@ use Rattle.btf_records.specs.BtfType.{record_of, type_kind}
 use Rattle.btf_records.specs.declared.btf_type.BtfType.{BtfType}
 use Rattle.btf_records.specs.declared.btf_type.BtfType.TheVariants as variants
 use Rattle.btf_records.specs.declared.union.Union.{Union}
-use Rattle.btf_layout_model.specs.Alignment.{Member, members_in}
-use Rattle.btf_layout.specs.Shape.{member_of, members_of}
+use Rattle.btf_layout_model.specs.Alignment.{AlignedMember, aligned_members_in}
+use Rattle.btf_layout.specs.Shape.{layout_member, layout_members}
 
 -- the members that are written as words are read from them
-members_back : (info : ℕ) (ms : List BtfMember) → members_in info (flat_map member_words ms) ≡ map (member_of info) ms
+members_back : (info : ℕ) (ms : List BtfMember) → aligned_members_in info (flat_map member_words ms) ≡ map (layout_member info) ms
 members_back info [] = refl
-members_back info (m ∷ ms) = ap (λ (rest : List Member). member_of info m ∷ rest) (members_back info ms)
+members_back info (m ∷ ms) = ap (λ (rest : List AlignedMember). layout_member info m ∷ rest) (members_back info ms)
 
 -- the members of a STRUCT
 pub struct_members : (b : BtfType) (t : Record) (ms : List BtfMember) → b ≡ variants.Struct t → kind_of (record_of b).info ≡ Some (type_kind b) → t.tail ≡ flat_map member_words ms
-    → map (member_of (record_of b).info) ms ≡ members_of (record_of b)
+    → map (layout_member (record_of b).info) ms ≡ layout_members (record_of b)
 struct_members b t ms is kind tail =
     let here : kind_of t.info ≡ Some model.Struct = subst (λ (x : BtfType). kind_of (record_of x).info ≡ Some (type_kind x)) is kind in
     rw (is, here, tail) (sym (members_back t.info ms))
 
 -- the members of a UNION
 pub union_members : (b : BtfType) (u : Union) (ms : List BtfMember) → b ≡ variants.Union u → kind_of (record_of b).info ≡ Some (type_kind b) → u.words.tail ≡ flat_map member_words ms
-    → map (member_of (record_of b).info) ms ≡ members_of (record_of b)
+    → map (layout_member (record_of b).info) ms ≡ layout_members (record_of b)
 union_members b u ms is kind tail =
     let here : kind_of u.words.info ≡ Some model.Union = subst (λ (x : BtfType). kind_of (record_of x).info ≡ Some (type_kind x)) is kind in
     rw (is, here, tail) (sym (members_back u.words.info ms))

@@ -11,8 +11,8 @@ use Rattle.btf_layout.specs.declared.progress.Outcome.{Outcome}
 use Rattle.btf_layout.specs.declared.progress.Outcome.TheVariants.{Endless}
 use Rattle.btf_layout.specs.declared.progress.Progress.{Progress}
 use Rattle.btf_layout.specs.declared.progress.Progress.TheVariants.{New, Open, Known}
-use Rattle.btf_layout.specs.Frame.{IsFrame, StepIs, started, started_by, outcome_of}
-use Rattle.btf_layout.specs.Progress.{progress_in, IsOutcome, IsKnown, Knows, NoneOpen, StaysKnown}
+use Rattle.btf_layout.specs.Frame.{IsMemberFrame, MemberStepIs, started, started_by, step_outcome}
+use Rattle.btf_layout.specs.Progress.{progress_in, IsOutcome, IsKnown, KnowsOutcomes, NoneOpen, StaysKnown}
 use Rattle.btf_layout.proofs.Sets.{written, others, same_or_not, new_inside, knows_open, knows_close, stays_open, stays_close}
 use Rattle.btf_layout.proofs.Stacks.{on_stack, top_on_stack, pushed, popped, Chain, chain_pushed, chain_popped, comes_back, Frames, frames_pushed, frames_popped}
 
@@ -26,8 +26,8 @@ IsBegun New = ⊥
 IsBegun progress = Unit {0}
 
 pub record Runs (records : List Record) (before known : List Progress) (below : List Frame) (top : Frame) (root : ℕ) : Type 0 where
-  pub knows : Knows records known
-  pub frame : IsFrame records top
+  pub knows : KnowsOutcomes records known
+  pub frame : IsMemberFrame records top
   pub inside : top.id < length records
   pub frames : Frames records below
   pub chain : Chain records below top.id
@@ -35,7 +35,7 @@ pub record Runs (records : List Record) (before known : List Progress) (below : 
   pub begun : IsBegun (progress_in known root)
   pub stays : StaysKnown before known
 
-pub new_is_frame : (records : List Record) (id : ℕ) → IsFrame records (new_frame id)
+pub new_is_frame : (records : List Record) (id : ℕ) → IsMemberFrame records (new_frame id)
 new_is_frame records id size members is = (omega arith, InPlace.none)
 
 module _ (records : List Record) (before known : List Progress) (root : ℕ) where
@@ -46,7 +46,7 @@ module _ (records : List Record) (before known : List Progress) (root : ℕ) whe
     by (inr ne) = subst IsBegun (sym (others known i root Open ne)) begun
 
   -- the computation starts with a new type
-  pub starts : progress_in known root ≡ New → Knows records known → NoneOpen known → Runs records known (set known root Open) [] (new_frame root) root
+  pub starts : progress_in known root ≡ New → KnowsOutcomes records known → NoneOpen known → Runs records known (set known root Open) [] (new_frame root) root
   starts new knows closed =
       let lt = new_inside known root new in record {
         knows = knows_open records known root lt knows;
@@ -62,11 +62,11 @@ module _ (records : List Record) (before known : List Progress) (root : ℕ) whe
         by id h (inl same) = subst (λ (x : ℕ). (x == root) ≡ true) (sym same) (top_on_stack [] root)
         by id h (inr ne) = absurd (closed id (sym (others known root id Open ne) ∙ h))
 
-  module _ (below : List Frame) (top : Frame) (after : Frame) (step : Step) (runs : Runs records before known below top root) (is : StepIs records known top.id step) (frame : IsFrame records after) (same : after.id ≡ top.id) where
+  module _ (below : List Frame) (top : Frame) (after : Frame) (step : Step) (runs : Runs records before known below top root) (is : MemberStepIs records known top.id step) (frame : IsMemberFrame records after) (same : after.id ≡ top.id) where
     -- the type that a step starts is new, and needed
     starts_new : (next : ℕ) → Some next ≡ started known step → (progress_in known next ≡ New) × Needs records top.id next
     starts_new next e = by step is e where
-      by : (s : Step) → StepIs records known top.id s → Some next ≡ started known s → (progress_in known next ≡ New) × Needs records top.id next
+      by : (s : Step) → MemberStepIs records known top.id s → Some next ≡ started known s → (progress_in known next ≡ New) × Needs records top.id next
       by (steps.Ends outcome) h f = absurd (none-some next (sym f))
       by (steps.Needs type) h f = new_by (progress_in known type) refl f where
         new_by : (p : Progress) → progress_in known type ≡ p → Some next ≡ started_by type p → (progress_in known next ≡ New) × Needs records top.id next
@@ -113,9 +113,9 @@ module _ (records : List Record) (before known : List Progress) (root : ℕ) whe
     top_inside = subst (λ (n : ℕ). after.id < n) (sym runs.knows.all) after_inside
 
     -- the outcome of a type that starts no other
-    outcome_is : None ≡ started known step → IsOutcome records after.id (outcome_of step)
-    outcome_is e = subst (λ (i : ℕ). IsOutcome records i (outcome_of step)) (sym same) (by step is e) where
-      by : (s : Step) → StepIs records known top.id s → None ≡ started known s → IsOutcome records top.id (outcome_of s)
+    outcome_is : None ≡ started known step → IsOutcome records after.id (step_outcome step)
+    outcome_is e = subst (λ (i : ℕ). IsOutcome records i (step_outcome step)) (sym same) (by step is e) where
+      by : (s : Step) → MemberStepIs records known top.id s → None ≡ started known s → IsOutcome records top.id (step_outcome s)
       by (steps.Ends outcome) h f = h
       by (steps.Needs type) h f = back (progress_in known type) refl f where
         back : (p : Progress) → progress_in known type ≡ p → None ≡ started_by type p → IsOutcome records top.id Endless
@@ -124,19 +124,19 @@ module _ (records : List Record) (before known : List Progress) (root : ℕ) whe
         back (Known outcome) g f = absurd (h.1 (subst IsKnown (sym g) tt))
 
     abbrev ended : List Progress
-    ended = set known after.id (Known (outcome_of step))
+    ended = set known after.id (Known (step_outcome step))
 
-    pub ended_knows : None ≡ started known step → Knows records ended
-    ended_knows e = knows_close records known after.id (outcome_of step) top_inside (outcome_is e) runs.knows
+    pub ended_knows : None ≡ started known step → KnowsOutcomes records ended
+    ended_knows e = knows_close records known after.id (step_outcome step) top_inside (outcome_is e) runs.knows
 
     pub ended_stays : StaysKnown before ended
-    ended_stays = stays_close before known after.id (outcome_of step) top_inside runs.stays
+    ended_stays = stays_close before known after.id (step_outcome step) top_inside runs.stays
 
     ended_begun : IsBegun (progress_in ended root)
     ended_begun = by (same_or_not root after.id) where
       by : (root ≡ after.id) ⊎ (root ≢ after.id) → IsBegun (progress_in ended root)
-      by (inl here) = subst IsBegun (sym (ap (progress_in ended) here ∙ written known after.id (Known (outcome_of step)) top_inside)) tt
-      by (inr ne) = subst IsBegun (sym (others known after.id root (Known (outcome_of step)) ne)) runs.begun
+      by (inl here) = subst IsBegun (sym (ap (progress_in ended) here ∙ written known after.id (Known (step_outcome step)) top_inside)) tt
+      by (inr ne) = subst IsBegun (sym (others known after.id root (Known (step_outcome step)) ne)) runs.begun
 
     known_open : (o : Outcome) → Known o ≡ Open → ⊥
     known_open o e = cc
@@ -145,8 +145,8 @@ module _ (records : List Record) (before known : List Progress) (root : ℕ) whe
     left : (id : ℕ) → progress_in ended id ≡ Open → (id ≢ after.id) × (on_stack below after.id id ≡ true)
     left id h = by (same_or_not id after.id) where
       by : (id ≡ after.id) ⊎ (id ≢ after.id) → (id ≢ after.id) × (on_stack below after.id id ≡ true)
-      by (inl here) = absurd (known_open (outcome_of step) (sym (written known after.id (Known (outcome_of step)) top_inside) ∙ ap (progress_in ended) (sym here) ∙ h))
-      by (inr ne) = (ne, after_open id (sym (others known after.id id (Known (outcome_of step)) ne) ∙ h))
+      by (inl here) = absurd (known_open (step_outcome step) (sym (written known after.id (Known (step_outcome step)) top_inside) ∙ ap (progress_in ended) (sym here) ∙ h))
+      by (inr ne) = (ne, after_open id (sym (others known after.id id (Known (step_outcome step)) ne) ∙ h))
 
     -- the computation goes on with the type below
     pub goes_up : None ≡ started known step → (rest : List Frame) (f : Frame) → below ≡ rest ++ f ∷ [] → Runs records before ended rest f root

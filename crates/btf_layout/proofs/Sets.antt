@@ -9,7 +9,7 @@ use Rattle.btf_model.specs.Record.{Record}
 use Rattle.btf_layout.specs.declared.progress.Outcome.{Outcome}
 use Rattle.btf_layout.specs.declared.progress.Progress.{Progress}
 use Rattle.btf_layout.specs.declared.progress.Progress.TheVariants.{New, Open, Known}
-use Rattle.btf_layout.specs.Progress.{progress_or, progress_in, IsOutcome, IsKnown, Knows, StaysKnown}
+use Rattle.btf_layout.specs.Progress.{progress_or, progress_in, IsOutcome, IsKnown, KnowsOutcomes, StaysKnown}
 
 slice_get-set_same : (xs : List Progress) (i : ℕ) (v : Progress) → i < length xs → slice_get (set xs i v) i ≡ Some v
 slice_get-set_same [] i v lt = absurd (omega arith)
@@ -75,7 +75,7 @@ module _ (records : List Record) where
   open_known : (o : Outcome) → Open ≡ Known o → ⊥
   open_known o e = cc
 
-  pub knows_open : (known : List Progress) (i : ℕ) → i < length known → Knows records known → Knows records (set known i Open)
+  pub knows_open : (known : List Progress) (i : ℕ) → i < length known → KnowsOutcomes records known → KnowsOutcomes records (set known i Open)
   knows_open known i lt knows = record {
     all = length-set known i Open ∙ knows.all;
     outcomes = λ id o e. by id o e (same_or_not id i);
@@ -87,7 +87,7 @@ module _ (records : List Record) where
   pub known_same : (o p : Outcome) → Known o ≡ Known p → o ≡ p
   known_same o p e = cc
 
-  pub knows_close : (known : List Progress) (i : ℕ) (o : Outcome) → i < length known → IsOutcome records i o → Knows records known → Knows records (set known i (Known o))
+  pub knows_close : (known : List Progress) (i : ℕ) (o : Outcome) → i < length known → IsOutcome records i o → KnowsOutcomes records known → KnowsOutcomes records (set known i (Known o))
   knows_close known i o lt is knows = record {
     all = length-set known i (Known o) ∙ knows.all;
     outcomes = λ id p e. by id p e (same_or_not id i);

@@ -4,7 +4,7 @@ use Rattle.std.proofs.lemmas.Bool.{eqb-true, eq-eqb, or_left, or_right}
 use Rattle.btf_model.specs.Record.{Record}
 use Rattle.btf_layout_model.specs.Alignment.{Needs, IsEndless}
 use Rattle.btf_layout.specs.declared.frame.Frame.{Frame}
-use Rattle.btf_layout.specs.Frame.{IsFrame}
+use Rattle.btf_layout.specs.Frame.{IsMemberFrame}
 use Rattle.btf_layout.proofs.Knowing.{or_cases}
 
 -- whether a type is on the stack, whose last type is `top`
@@ -85,13 +85,13 @@ module _ (records : List Record) where
   -- what is known of the types of the stack below the top
   abbrev pub Frames : List Frame → Type 0
   Frames [] = Unit {0}
-  Frames (f ∷ below) = IsFrame records f × (f.id < length records) × Frames below
+  Frames (f ∷ below) = IsMemberFrame records f × (f.id < length records) × Frames below
 
-  pub frames_pushed : (below : List Frame) (f : Frame) → Frames below → IsFrame records f → f.id < length records → Frames (below ++ f ∷ [])
+  pub frames_pushed : (below : List Frame) (f : Frame) → Frames below → IsMemberFrame records f → f.id < length records → Frames (below ++ f ∷ [])
   frames_pushed [] f frames is lt = (is, lt, tt)
   frames_pushed (g ∷ below) f frames is lt = (frames.0, frames.1, frames_pushed below f frames.2 is lt)
 
-  pub frames_popped : (below : List Frame) (f : Frame) → Frames (below ++ f ∷ []) → Frames below × IsFrame records f × (f.id < length records)
+  pub frames_popped : (below : List Frame) (f : Frame) → Frames (below ++ f ∷ []) → Frames below × IsMemberFrame records f × (f.id < length records)
   frames_popped [] f frames = (tt, frames.0, frames.1)
   frames_popped (g ∷ below) f frames =
       let rest = frames_popped below f frames.2 in

@@ -24,7 +24,7 @@ IsOutcome records id (Unexpected type) = Aligns records id (Err (UnexpectedBtfTy
 IsOutcome records id Endless = IsEndless records id
 
 -- each known outcome is the outcome of its type
-pub record Knows (records : List Record) (known : List Progress) : Type 0 where
+pub record KnowsOutcomes (records : List Record) (known : List Progress) : Type 0 where
   pub all : length known ≡ length records
   pub outcomes : (id : ℕ) (outcome : Outcome) → progress_in known id ≡ Known outcome → IsOutcome records id outcome
 
@@ -44,9 +44,9 @@ outcome_answer id (Unknown type) = Err (UnknownBtfType type)
 outcome_answer id (Unexpected type) = Err (UnexpectedBtfType type)
 outcome_answer id Endless = Err (MaximumTypeDepthReached id)
 
-abbrev pub answer_of : ℕ → Progress → Result ℕ Refusal
-answer_of id (Known outcome) = outcome_answer id outcome
-answer_of id progress = Err (MaximumTypeDepthReached id)
+abbrev pub alignment_answer : ℕ → Progress → Result ℕ Refusal
+alignment_answer id (Known outcome) = outcome_answer id outcome
+alignment_answer id progress = Err (MaximumTypeDepthReached id)
 
 -- a type whose outcome is known before has a known outcome after
 abbrev pub StaysKnown : List Progress → List Progress → Type 0

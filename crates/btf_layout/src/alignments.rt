@@ -4,7 +4,7 @@ ghost use Rattle.std.specs.Prelude.{◌≡◌, ℕ, IfOk, MatchResult};
 ghost use Rattle.btf_plain.specs.Error.{Meets, MeetsOrNoMemory};
 ghost use Rattle.btf_layout_model.specs.Alignment.{HasAlignment};
 ghost use Rattle.btf_layout.specs.Alignments.{alignment_in};
-ghost use Rattle.btf_layout.specs.Progress.{Knows, NoneOpen, answer_of, progress_in};
+ghost use Rattle.btf_layout.specs.Progress.{KnowsOutcomes, NoneOpen, alignment_answer, progress_in};
 
 use crate::progress::{Progress, progress_of};
 use crate::run::run;
@@ -63,7 +63,7 @@ pub fn alignment_of(table: &Btf, type_id: u32) -> Result<u32, BtfError>
 
 /// The progress of the types of a table, before a type was looked at.
 fn all_new(table: &Btf) -> Result<Vec<Progress>, AllocError>
-    ensures known { IfOk result (λ v. Knows table.now.records v.items) }
+    ensures known { IfOk result (λ v. KnowsOutcomes table.now.records v.items) }
     ensures closed { IfOk result (λ v. NoneOpen v.items) }
 {
     vec![in allocator_of(table); Progress::New; type_count(table) as usize]
@@ -72,7 +72,7 @@ fn all_new(table: &Btf) -> Result<Vec<Progress>, AllocError>
 /// The answer of the type of an id.
 fn answer_in(known: &[Progress], type_id: u32) -> Result<u32, BtfError>
     ensures { Meets (λ n. n) result
-        (λ answer. answer ≡ answer_of type_id (progress_in known.now type_id)) }
+        (λ answer. answer ≡ alignment_answer type_id (progress_in known.now type_id)) }
 {
     match progress_of(known, type_id) {
         Progress::Known(outcome) => outcome.answer(type_id),

@@ -1,8 +1,8 @@
 //! A type whose alignment is computed.
 
 ghost use Rattle.std.specs.Prelude.{◌≡◌};
-ghost use Rattle.btf_layout.specs.Frame.{IsFrame, StepIs, alignment_by, step_by, started, outcome_of};
-ghost use Rattle.btf_layout.specs.Progress.{Knows, progress_in};
+ghost use Rattle.btf_layout.specs.Frame.{IsMemberFrame, MemberStepIs, alignment_by, step_by_progress, started, step_outcome};
+ghost use Rattle.btf_layout.specs.Progress.{KnowsOutcomes, progress_in};
 
 use crate::progress::{Outcome, Progress, progress_of};
 use crate::shape::{Composite, Shape, shape_at};
@@ -41,10 +41,10 @@ impl Frame {
 
     /// Computes the alignment, up to the first type whose outcome is not known.
     pub fn step(&mut self, table: &Btf, known: &[Progress]) -> Step
-        requires frame { IsFrame table.now.records self.old }
-        requires known { Knows table.now.records known.now }
-        ensures step { StepIs table.now.records known.now self.old.id result }
-        ensures frame { IsFrame table.now.records self.new }
+        requires frame { IsMemberFrame table.now.records self.old }
+        requires known { KnowsOutcomes table.now.records known.now }
+        ensures step { MemberStepIs table.now.records known.now self.old.id result }
+        ensures frame { IsMemberFrame table.now.records self.new }
         ensures id { self.new.id ≡ self.old.id }
     {
         let Ok(btf_type) = table.type_by_id(self.id) else {
@@ -87,7 +87,7 @@ impl Step {
 
     /// The outcome of a type that needs no new type: if it needs an open type, it contains itself.
     pub fn outcome(&self) -> Outcome
-        ensures { result ≡ outcome_of self.now }
+        ensures { result ≡ step_outcome self.now }
     {
         match self {
             Step::Ends(outcome) => *outcome,
@@ -98,7 +98,7 @@ impl Step {
 
 /// The outcome of the type of an id, if it is known.
 fn step_to(known: &[Progress], type_id: u32) -> Step
-    ensures { result ≡ step_by type_id (progress_in known.now type_id) }
+    ensures { result ≡ step_by_progress type_id (progress_in known.now type_id) }
 {
     match progress_of(known, type_id) {
         Progress::Known(outcome) => Step::Ends(outcome),

@@ -4,7 +4,7 @@
 //! type after it. If a type needs an open type, it contains itself.
 
 ghost use Rattle.std.specs.Prelude.{OnOk};
-ghost use Rattle.btf_layout.specs.Progress.{Knows, NoneOpen, IsKnown, StaysKnown, progress_in};
+ghost use Rattle.btf_layout.specs.Progress.{KnowsOutcomes, NoneOpen, IsKnown, StaysKnown, progress_in};
 
 use crate::frame::Frame;
 use crate::progress::{Progress, progress_of};
@@ -13,9 +13,9 @@ use std::alloc::AllocError;
 
 /// Computes the outcome of a type, and of the types that it needs, if it is not known.
 pub fn run(table: &Btf, root: u32, known: &mut [Progress]) -> Result<(), AllocError>
-    requires known { Knows table.now.records known.old }
+    requires known { KnowsOutcomes table.now.records known.old }
     requires closed { NoneOpen known.old }
-    ensures known { OnOk result (Knows table.now.records known.new) }
+    ensures known { OnOk result (KnowsOutcomes table.now.records known.new) }
     ensures closed { OnOk result (NoneOpen known.new) }
     ensures root { OnOk result (IsKnown (progress_in known.new root)) }
     ensures stays { OnOk result (StaysKnown known.old known.new) }

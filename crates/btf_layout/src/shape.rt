@@ -4,7 +4,7 @@ ghost use Rattle.std.specs.Prelude.{◌≡◌, ℕ, ◌<◌, map};
 ghost use Rattle.btf_model.specs.Record.{Record, kind_of};
 ghost use Rattle.btf_records.specs.BtfType.{record_of};
 ghost use Rattle.btf_layout_model.specs.Alignment as model;
-ghost use Rattle.btf_layout.specs.Shape.{member_of, members_of, shape_view, composite_view};
+ghost use Rattle.btf_layout.specs.Shape.{layout_member, layout_members, shape_view, composite_view};
 
 use btf_plain::{BtfMember, bit_field_size, bit_offset};
 use btf_records::BtfType;
@@ -67,8 +67,8 @@ pub fn shape_at(btf_type: &BtfType) -> Shape
 
 /// The members of a STRUCT or UNION; none for a type of another kind.
 fn members(btf_type: &BtfType) -> &[BtfMember]
-    ensures { map (member_of (record_of btf_type.now).info) result.now
-        ≡ members_of (record_of btf_type.now) }
+    ensures { map (layout_member (record_of btf_type.now).info) result.now
+        ≡ layout_members (record_of btf_type.now) }
 {
     // Only a use of the kind proves that the info word has it.
     let _ = btf_type.kind();
@@ -94,7 +94,7 @@ impl<'a> Composite<'a> {
     /// A STRUCT or UNION of this size.
     pub fn new(size: u32, btf_type: &'a BtfType) -> Self
         ensures { composite_view result
-            ≡ model.Composed size (members_of (record_of btf_type.now)) }
+            ≡ model.Composed size (layout_members (record_of btf_type.now)) }
     {
         Composite {
             size,
@@ -106,7 +106,7 @@ impl<'a> Composite<'a> {
     /// Whether a member begins at a multiple of the alignment of its type, or is a bit-field.
     pub fn is_in_place(&self, member: &BtfMember, alignment: u32) -> bool
         requires { 0 < alignment }
-        ensures { result ≡ model.is_in_place (member_of self.now.info member.now) alignment }
+        ensures { result ≡ model.is_in_place (layout_member self.now.info member.now) alignment }
     {
         bit_field_size(self.info, member) != 0
             || bit_offset(self.info, member) % (8 * alignment as usize) == 0

@@ -2,7 +2,7 @@
 use Rattle.std.proofs.Common.{◌≡◌, ℕ, List, [], ◌∷◌, ◌++◌, Bool, IsTrue, sym, ap, subst, ◌∙◌, inl, inr, Some, Result, Ok}
 use Rattle.btf_model.specs.Record.{Record}
 use Rattle.btf_model.specs.Refusal.{Refusal}
-use Rattle.btf_layout_model.specs.Alignment.{Member, Fixed, SameAs, Composed, Unaligned, decided_by, Aligns, InPlace, Needs, IsEndless, HasAlignment}
+use Rattle.btf_layout_model.specs.Alignment.{AlignedMember, Fixed, SameAs, Composed, Unaligned, decided_by, Aligns, InPlace, Needs, IsEndless, HasAlignment}
 use Rattle.btf_layout_model.proofs.Shapes.{same_head, same_tail, needs_by}
 use Rattle.btf_layout_model.proofs.Unique.{Unique, one, not_both, moved}
 
@@ -10,22 +10,22 @@ module _ (records : List Record) (waits : ℕ → Bool) (closed : (at : ℕ) →
   abbrev IsDone : ℕ → Type 0
   IsDone id = IsTrue (waits id) → ⊥
 
-  abbrev AreDone : List Member → Type 0
+  abbrev AreDone : List AlignedMember → Type 0
   AreDone [] = Unit {0}
   AreDone (m ∷ members) = IsDone m.type × AreDone members
 
-  done_if_same : (m n : Member) (type : ℕ) → m ≡ n → n.type ≡ type → IsDone m.type → IsDone type
-  done_if_same m n type e f is_done = subst IsDone (ap (λ (x : Member). x.type) e ∙ f) is_done
+  done_if_same : (m n : AlignedMember) (type : ℕ) → m ≡ n → n.type ≡ type → IsDone m.type → IsDone type
+  done_if_same m n type e f is_done = subst IsDone (ap (λ (x : AlignedMember). x.type) e ∙ f) is_done
 
   -- a member among members that are all done
-  among : (before after members : List Member) (m : Member) (type : ℕ) → members ≡ before ++ m ∷ after → m.type ≡ type → AreDone members → IsDone type
+  among : (before after members : List AlignedMember) (m : AlignedMember) (type : ℕ) → members ≡ before ++ m ∷ after → m.type ≡ type → AreDone members → IsDone type
   among [] after [] m type e f are_done = cc
   among [] after (x ∷ members) m type e f are_done = done_if_same x m type (same_head x m members after e) f are_done.0
   among (y ∷ before) after [] m type e f are_done = cc
   among (y ∷ before) after (x ∷ members) m type e f are_done = among before after members m type (same_tail x y members (before ++ m ∷ after) e) f are_done.1
 
   -- a member after members that are in their places is the one that decides, or stands before it
-  until : (before after : List Member) (m : Member) (before' after' : List Member) (n : Member) (largest type : ℕ) (r a : Result ℕ Refusal) → before ++ m ∷ after ≡ before' ++ n ∷ after' → AreDone before → IsDone m.type → Unique records m.type r → decided_by m r ≡ Some a → InPlace records before' largest → n.type ≡ type → IsDone type
+  until : (before after : List AlignedMember) (m : AlignedMember) (before' after' : List AlignedMember) (n : AlignedMember) (largest type : ℕ) (r a : Result ℕ Refusal) → before ++ m ∷ after ≡ before' ++ n ∷ after' → AreDone before → IsDone m.type → Unique records m.type r → decided_by m r ≡ Some a → InPlace records before' largest → n.type ≡ type → IsDone type
   until [] after m before' after' n largest type r a e are_done is_done v stops (InPlace.none) f = done_if_same m n type (same_head m n after after' e) f is_done
   until [] after m before' after' n largest type r a e are_done is_done v stops (InPlace.also x xs i k h goes places) f =
       let same = same_head m x after (xs ++ n ∷ after') e in
@@ -48,7 +48,7 @@ module _ (records : List Record) (waits : ℕ → Bool) (closed : (at : ℕ) →
         let d = needs_by records id (closed id w).0 (Composed size members) is (closed id w).1 in
         among d.1 d.2 members d.3 (closed id w).0 d.4 d.6 (all_end members largest places) (closed id w).2
 
-    all_end : (members : List Member) (largest : ℕ) → InPlace records members largest → AreDone members
+    all_end : (members : List AlignedMember) (largest : ℕ) → InPlace records members largest → AreDone members
     all_end members largest (InPlace.none) = tt
     all_end members largest (InPlace.also m rest a k h goes places) = (ends m.type (Ok a) h, all_end rest k places)
 

@@ -2,32 +2,32 @@
 use Rattle.std.proofs.Common.{◌≡◌, ◌⊎◌, ℕ, List, [], ◌∷◌, ◌++◌, refl, sym, ap, subst, inl, inr, Some, Result, Ok, Err}
 use Rattle.btf_model.specs.Record.{Record}
 use Rattle.btf_model.specs.Refusal.{Refusal}
-use Rattle.btf_layout_model.specs.Alignment.{Member, Shape, Fixed, SameAs, Composed, Unaligned, shape_in, decided_by, composed, Aligns, InPlace, Needs}
+use Rattle.btf_layout_model.specs.Alignment.{AlignedMember, Shape, Fixed, SameAs, Composed, Unaligned, shape_in, decided_by, composed, Aligns, InPlace, Needs}
 
 -- ---- lists of members
 
-head_or : Member → List Member → Member
+head_or : AlignedMember → List AlignedMember → AlignedMember
 head_or d [] = d
 head_or d (m ∷ ms) = m
 
-tail_of : List Member → List Member
+tail_of : List AlignedMember → List AlignedMember
 tail_of [] = []
 tail_of (m ∷ ms) = ms
 
-pub same_head : (m n : Member) (ms ns : List Member) → m ∷ ms ≡ n ∷ ns → m ≡ n
+pub same_head : (m n : AlignedMember) (ms ns : List AlignedMember) → m ∷ ms ≡ n ∷ ns → m ≡ n
 unfolding head_or
 same_head m n ms ns e = ap (head_or m) e
 
-pub same_tail : (m n : Member) (ms ns : List Member) → m ∷ ms ≡ n ∷ ns → ms ≡ ns
+pub same_tail : (m n : AlignedMember) (ms ns : List AlignedMember) → m ∷ ms ≡ n ∷ ns → ms ≡ ns
 unfolding tail_of
 same_tail m n ms ns e = ap tail_of e
 
 -- ---- shapes
 
 -- a member decides this answer, and the members before it are in their places
-abbrev pub Decides : List Record → List Member → Result ℕ Refusal → Type 0
+abbrev pub Decides : List Record → List AlignedMember → Result ℕ Refusal → Type 0
 Decides records members answer =
-    (largest : ℕ) × (before after : List Member) × (m : Member) × (alignment : Result ℕ Refusal)
+    (largest : ℕ) × (before after : List AlignedMember) × (m : AlignedMember) × (alignment : Result ℕ Refusal)
     × (members ≡ before ++ m ∷ after) × InPlace records before largest × Aligns records m.type alignment
     × (decided_by m alignment ≡ Some answer)
 
@@ -58,7 +58,7 @@ abbrev pub NeedsBy : List Record → Shape → ℕ → Type 0
 NeedsBy records (Fixed alignment) type = ⊥
 NeedsBy records (SameAs next) type = next ≡ type
 NeedsBy records (Composed size members) type =
-    (largest : ℕ) × (before after : List Member) × (m : Member) × (members ≡ before ++ m ∷ after)
+    (largest : ℕ) × (before after : List AlignedMember) × (m : AlignedMember) × (members ≡ before ++ m ∷ after)
     × InPlace records before largest × (m.type ≡ type)
 NeedsBy records (Unaligned refusal) type = ⊥
 

@@ -2,7 +2,7 @@
 use Rattle.std.proofs.Common.{◌≡◌, ℕ, ◌<◌, ◌≤◌, ◌%◌, ◌==◌, min, Bool, true, false, List, refl, subst, inl, inr, Some, None, Option, Result, Ok, Err, arith, if◌then◌else◌, slice_get}
 use Rattle.btf_model.specs.Record.{Kind, Int, Ptr, Enum, Float, Enum64, Record, kind_of}
 use Rattle.btf_model.specs.Refusal.{Refusal, UnexpectedBtfType}
-use Rattle.btf_layout_model.specs.Alignment.{Member, Shape, Fixed, Unaligned, by_size, shape, shape_of, is_in_place, decided_by, composed, Aligns, InPlace, HasAlignment}
+use Rattle.btf_layout_model.specs.Alignment.{AlignedMember, Shape, Fixed, Unaligned, by_size, shape, shape_of, is_in_place, decided_by, composed, Aligns, InPlace, HasAlignment}
 
 abbrev pub IsSmall : ℕ → Type 0
 IsSmall n = (0 < n) × (n ≤ 8)
@@ -38,7 +38,7 @@ shape_of_small : (id : ℕ) (o : Option Record) → IsSmallShape (shape_of id o)
 shape_of_small id (Some r) = shape_small id (kind_of r.info) r
 shape_of_small id None = tt
 
-decided_small : (m : Member) (a : Result ℕ Refusal) → IsSmallOption (decided_by m a)
+decided_small : (m : AlignedMember) (a : Result ℕ Refusal) → IsSmallOption (decided_by m a)
 decided_small m (Ok n) = elim (is_in_place m n) as (λ b. IsSmallOption (if b then None else Some (Ok 1))) [ true ↦ tt | false ↦ (omega arith, omega arith) ]
 decided_small m (Err refusal) = tt
 
@@ -54,7 +54,7 @@ module _ (records : List Record) where
     small id a (Aligns.decided _ size largest before after m r _ is places h stops) = subst IsSmallOption stops (decided_small m r)
     small id a (Aligns.all _ size largest members is places) = composed_small size largest (small_places members largest places)
 
-    pub small_places : (members : List Member) (largest : ℕ) → InPlace records members largest → IsSmall largest
+    pub small_places : (members : List AlignedMember) (largest : ℕ) → InPlace records members largest → IsSmall largest
     small_places members largest (InPlace.none) = (omega arith, omega arith)
     small_places members largest (InPlace.also m rest a k h goes places) =
         let one = small m.type (Ok a) h in

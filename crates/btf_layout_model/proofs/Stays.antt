@@ -4,7 +4,7 @@ use Rattle.std.proofs.lemmas.Option.{slice_get_within}
 use Rattle.btf_model.specs.Record.{Record}
 use Rattle.btf_model.specs.Refusal.{Refusal}
 use Rattle.btf_model.proofs.Blobs.{slice_get-append_left}
-use Rattle.btf_layout_model.specs.Alignment.{Member, Shape, Fixed, SameAs, Composed, Unaligned, shape_of, shape_in, decided_by, Aligns, InPlace, HasAlignment}
+use Rattle.btf_layout_model.specs.Alignment.{AlignedMember, Shape, Fixed, SameAs, Composed, Unaligned, shape_of, shape_in, decided_by, Aligns, InPlace, HasAlignment}
 
 abbrev IsOkOption : Option (Result ℕ Refusal) → Type 0
 IsOkOption (Some (Err refusal)) = ⊥
@@ -26,7 +26,7 @@ module _ (base more : List Record) where
   Stays id (Err refusal) = Unit {0}
 
   -- a member that decides an alignment has an alignment
-  stops_again : (id size largest : ℕ) (before after : List Member) (m : Member) (r a : Result ℕ Refusal) → shape_in (base ++ more) id ≡ Composed size (before ++ m ∷ after) → InPlace (base ++ more) before largest → Stays m.type r → decided_by m r ≡ Some a → Stays id a
+  stops_again : (id size largest : ℕ) (before after : List AlignedMember) (m : AlignedMember) (r a : Result ℕ Refusal) → shape_in (base ++ more) id ≡ Composed size (before ++ m ∷ after) → InPlace (base ++ more) before largest → Stays m.type r → decided_by m r ≡ Some a → Stays id a
   stops_again id size largest before after m r (Err refusal) is places h stops = tt
   stops_again id size largest before after m (Ok n) (Ok k) is places h stops = Aligns.decided id size largest before after m (Ok n) (Ok k) is places h stops
   stops_again id size largest before after m (Err refusal) (Ok k) is places h stops = cc
@@ -45,7 +45,7 @@ module _ (base more : List Record) where
     stays id a (Aligns.all _ size largest members is places) =
         Aligns.all id size largest members (same_shape id (Composed size members) tt is) (places_stay members largest places)
 
-    places_stay : (members : List Member) (largest : ℕ) → InPlace base members largest → InPlace (base ++ more) members largest
+    places_stay : (members : List AlignedMember) (largest : ℕ) → InPlace base members largest → InPlace (base ++ more) members largest
     places_stay members largest (InPlace.none) = InPlace.none
     places_stay members largest (InPlace.also m rest a k h goes places) = InPlace.also m rest a k (stays m.type (Ok a) h) goes (places_stay rest k places)
 

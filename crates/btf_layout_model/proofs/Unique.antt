@@ -4,7 +4,7 @@ use Rattle.std.specs.Result.{result_ok}
 use Rattle.std.proofs.lemmas.Option.{none-some, same_Some}
 use Rattle.btf_model.specs.Record.{Record}
 use Rattle.btf_model.specs.Refusal.{Refusal}
-use Rattle.btf_layout_model.specs.Alignment.{Member, Fixed, SameAs, Composed, Unaligned, decided_by, composed, Aligns, InPlace}
+use Rattle.btf_layout_model.specs.Alignment.{AlignedMember, Fixed, SameAs, Composed, Unaligned, decided_by, composed, Aligns, InPlace}
 use Rattle.btf_layout_model.proofs.Shapes.{same_head, same_tail, by}
 
 module _ (records : List Record) where
@@ -13,7 +13,7 @@ module _ (records : List Record) where
   Unique id answer = (other : Result ℕ Refusal) → Aligns records id other → answer ≡ other
 
   -- the members are in their places, and their types have no other alignments than these
-  abbrev pub UniquePlaces : List Member → ℕ → Type 0
+  abbrev pub UniquePlaces : List AlignedMember → ℕ → Type 0
   UniquePlaces [] largest = 1 ≡ largest
   UniquePlaces (m ∷ members) largest =
       (alignment rest : ℕ) × Unique m.type (Ok alignment) × (decided_by m (Ok alignment) ≡ None)
@@ -27,20 +27,20 @@ module _ (records : List Record) where
   same_ok n k e = same_Some n k (ap result_ok e)
 
   -- a member that decides is no member that is in its place
-  pub not_both : (m n : Member) (a r b : Result ℕ Refusal) → m ≡ n → a ≡ r → decided_by m a ≡ None → decided_by n r ≡ Some b → ⊥
-  not_both m n a r b e f goes stops = none-some b (sym goes ∙ ap (λ (x : Member). decided_by x a) e ∙ ap (decided_by n) f ∙ stops)
+  pub not_both : (m n : AlignedMember) (a r b : Result ℕ Refusal) → m ≡ n → a ≡ r → decided_by m a ≡ None → decided_by n r ≡ Some b → ⊥
+  not_both m n a r b e f goes stops = none-some b (sym goes ∙ ap (λ (x : AlignedMember). decided_by x a) e ∙ ap (decided_by n) f ∙ stops)
 
-  pub moved : (m n : Member) (a : Result ℕ Refusal) → m ≡ n → Aligns records n.type a → Aligns records m.type a
-  moved m n a e h = subst (λ (x : Member). Aligns records x.type a) (sym e) h
+  pub moved : (m n : AlignedMember) (a : Result ℕ Refusal) → m ≡ n → Aligns records n.type a → Aligns records m.type a
+  moved m n a e h = subst (λ (x : AlignedMember). Aligns records x.type a) (sym e) h
 
-  one_largest : (members : List Member) (largest other : ℕ) → UniquePlaces members largest → InPlace records members other → largest ≡ other
+  one_largest : (members : List AlignedMember) (largest other : ℕ) → UniquePlaces members largest → InPlace records members other → largest ≡ other
   unfolding aligned
   one_largest [] largest other u (InPlace.none) = sym u
   one_largest (m ∷ members) largest other u (InPlace.also _ _ a k h goes places) =
       sym u.5 ∙ ap (λ (x : ℕ). max x u.1) (same_ok u.0 a (u.2 (Ok a) h)) ∙ ap (max a) (one_largest members u.1 k u.4 places)
 
   -- the member that decides is in no list of members that are in their places
-  none_decides : (before after members : List Member) (m : Member) (largest : ℕ) (r b : Result ℕ Refusal) → members ≡ before ++ m ∷ after → UniquePlaces members largest → Aligns records m.type r → decided_by m r ≡ Some b → ⊥
+  none_decides : (before after members : List AlignedMember) (m : AlignedMember) (largest : ℕ) (r b : Result ℕ Refusal) → members ≡ before ++ m ∷ after → UniquePlaces members largest → Aligns records m.type r → decided_by m r ≡ Some b → ⊥
   none_decides [] after [] m largest r b e u h stops = cc
   none_decides [] after (x ∷ members) m largest r b e u h stops =
       let same = same_head x m members after e in
@@ -49,15 +49,15 @@ module _ (records : List Record) where
   none_decides (y ∷ before) after (x ∷ members) m largest r b e u h stops =
       none_decides before after members m u.1 r b (same_tail x y members (before ++ m ∷ after) e) u.4 h stops
 
-  not_in_place : (before after : List Member) (m : Member) (largest : ℕ) (r b : Result ℕ Refusal) → InPlace records (before ++ m ∷ after) largest → Unique m.type r → decided_by m r ≡ Some b → ⊥
+  not_in_place : (before after : List AlignedMember) (m : AlignedMember) (largest : ℕ) (r b : Result ℕ Refusal) → InPlace records (before ++ m ∷ after) largest → Unique m.type r → decided_by m r ≡ Some b → ⊥
   not_in_place [] after m largest r b (InPlace.also _ _ a k h goes places) u stops = not_both m m (Ok a) r b refl (sym (u (Ok a) h)) goes stops
   not_in_place (x ∷ before) after m largest r b (InPlace.also _ _ a k h goes places) u stops = not_in_place before after m k r b places u stops
 
   -- the first member that decides is the same in two splits
-  same_decision : (before : List Member) (after : List Member) (m : Member) (largest : ℕ) (r a : Result ℕ Refusal) (before' after' : List Member) (m' : Member) (largest' : ℕ) (r' b : Result ℕ Refusal) → before ++ m ∷ after ≡ before' ++ m' ∷ after' → UniquePlaces before largest → Unique m.type r → decided_by m r ≡ Some a → InPlace records before' largest' → Aligns records m'.type r' → decided_by m' r' ≡ Some b → a ≡ b
+  same_decision : (before : List AlignedMember) (after : List AlignedMember) (m : AlignedMember) (largest : ℕ) (r a : Result ℕ Refusal) (before' after' : List AlignedMember) (m' : AlignedMember) (largest' : ℕ) (r' b : Result ℕ Refusal) → before ++ m ∷ after ≡ before' ++ m' ∷ after' → UniquePlaces before largest → Unique m.type r → decided_by m r ≡ Some a → InPlace records before' largest' → Aligns records m'.type r' → decided_by m' r' ≡ Some b → a ≡ b
   same_decision [] after m largest r a before' after' m' largest' r' b e u v stops (InPlace.none) h stops' =
       let same = same_head m m' after after' e in
-      same_Some a b (sym stops ∙ ap (λ (x : Member). decided_by x r) same ∙ ap (decided_by m') (v r' (moved m m' r' same h)) ∙ stops')
+      same_Some a b (sym stops ∙ ap (λ (x : AlignedMember). decided_by x r) same ∙ ap (decided_by m') (v r' (moved m m' r' same h)) ∙ stops')
   same_decision [] after m largest r a before' after' m' largest' r' b e u v stops (InPlace.also x xs n k h' goes places) h stops' =
       let same = same_head m x after (xs ++ m' ∷ after') e in
       absurd (not_both x m (Ok n) r a (sym same) (sym (v (Ok n) (moved m x (Ok n) same h'))) goes stops)
@@ -83,6 +83,6 @@ module _ (records : List Record) where
           | inr d ↦ ap (λ (x : ℕ). Ok (composed size x)) (one_largest members largest d.0 (ones members largest places) d.1) ∙ d.2
         ]
 
-    pub ones : (members : List Member) (largest : ℕ) → InPlace records members largest → UniquePlaces members largest
+    pub ones : (members : List AlignedMember) (largest : ℕ) → InPlace records members largest → UniquePlaces members largest
     ones members largest (InPlace.none) = refl
     ones members largest (InPlace.also m rest a k h goes places) = (a, k, one m.type (Ok a) h, goes, ones rest k places, refl)

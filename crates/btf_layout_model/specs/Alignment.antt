@@ -9,41 +9,41 @@ use Rattle.btf_model.specs.Refusal.{Refusal, UnknownBtfType, UnexpectedBtfType, 
 -- ---- what a record gives
 
 -- a member: its type, the bit at which it begins, and its number of bits if it is a bit-field, else 0
-pub record Member : Type 0 where
+pub record AlignedMember : Type 0 where
   pub type : ℕ
   pub bit : ℕ
   pub bits : ℕ
 
 -- the members in the words of a STRUCT or UNION with this info word
-abbrev pub members_in : ℕ → List ℕ → List Member
-members_in info (name ∷ type ∷ offset ∷ words) =
+abbrev pub aligned_members_in : ℕ → List ℕ → List AlignedMember
+aligned_members_in info (name ∷ type ∷ offset ∷ words) =
     record { type = type; bit = member_bit_offset info offset; bits = member_bit_field_size info offset }
-    ∷ members_in info words
-members_in info words = []
+    ∷ aligned_members_in info words
+aligned_members_in info words = []
 
 -- What a record gives for the alignment of its type: the alignment, another type with the same alignment, the size and
 -- the members of a STRUCT or UNION, or the reason why there is none.
 pub data Shape : Type 0 where
   Fixed : (alignment : ℕ) → Shape
   SameAs : (type : ℕ) → Shape
-  Composed : (size : ℕ) (members : List Member) → Shape
+  Composed : (size : ℕ) (members : List AlignedMember) → Shape
   Unaligned : Refusal → Shape
 
 -- the size of a pointer in bytes, which is the largest alignment
-abbrev pub pointer_size : ℕ
-pointer_size = 8
+abbrev pub pointer_len : ℕ
+pointer_len = 8
 
 -- a number is aligned to its size, but at most to the size of a pointer
 abbrev pub by_size : ℕ → ℕ → Shape
-by_size id size = if size == 0 then Unaligned (UnexpectedBtfType id) else Fixed (min size pointer_size)
+by_size id size = if size == 0 then Unaligned (UnexpectedBtfType id) else Fixed (min size pointer_len)
 
 -- what the record of an id gives, by its kind; nothing for Unknown, FWD, FUNC, FUNC_PROTO, VAR, DATASEC and DECL_TAG
 abbrev pub shape : ℕ → Option Kind → Record → Shape
 shape id (Some Int) r = by_size id r.third
-shape id (Some Ptr) r = Fixed pointer_size
+shape id (Some Ptr) r = Fixed pointer_len
 shape id (Some Array) r = SameAs (element_type r)
-shape id (Some Struct) r = Composed r.third (members_in r.info r.tail)
-shape id (Some Union) r = Composed r.third (members_in r.info r.tail)
+shape id (Some Struct) r = Composed r.third (aligned_members_in r.info r.tail)
+shape id (Some Union) r = Composed r.third (aligned_members_in r.info r.tail)
 shape id (Some Enum) r = by_size id r.third
 shape id (Some Typedef) r = SameAs r.third
 shape id (Some Volatile) r = SameAs r.third
@@ -65,12 +65,12 @@ shape_in records id = shape_of id (slice_get records id)
 -- ---- alignments
 
 -- A member is in its place if it is a bit-field, or begins at a multiple of the alignment of its type.
-abbrev pub is_in_place : Member → ℕ → Bool
+abbrev pub is_in_place : AlignedMember → ℕ → Bool
 is_in_place m alignment = not (m.bits == 0) || m.bit % (8 * alignment) == 0
 
 -- The answer for a STRUCT or UNION that a member decides, by the alignment of the member's type: an error is the answer,
 -- and a member that is not in its place means that the type is packed. Other members decide nothing.
-abbrev pub decided_by : Member → Result ℕ Refusal → Option (Result ℕ Refusal)
+abbrev pub decided_by : AlignedMember → Result ℕ Refusal → Option (Result ℕ Refusal)
 decided_by m (Ok alignment) = if is_in_place m alignment then None else Some (Ok 1)
 decided_by m (Err refusal) = Some (Err refusal)
 
@@ -89,17 +89,17 @@ mutual
     same_as : (id type : ℕ) (answer : Result ℕ Refusal) → shape_in records id ≡ SameAs type
         → Aligns records type answer → Aligns records id answer
     -- a member decides, and the members before it are in their places
-    decided : (id size largest : ℕ) (before after : List Member) (m : Member) (alignment answer : Result ℕ Refusal)
+    decided : (id size largest : ℕ) (before after : List AlignedMember) (m : AlignedMember) (alignment answer : Result ℕ Refusal)
         → shape_in records id ≡ Composed size (before ++ m ∷ after) → InPlace records before largest
         → Aligns records m.type alignment → decided_by m alignment ≡ Some answer → Aligns records id answer
     -- all members are in their places
-    all : (id size largest : ℕ) (members : List Member) → shape_in records id ≡ Composed size members
+    all : (id size largest : ℕ) (members : List AlignedMember) → shape_in records id ≡ Composed size members
         → InPlace records members largest → Aligns records id (Ok (composed size largest))
 
   -- These members are in their places, and this is the largest of their alignments, or 1 if there are no members.
-  pub data InPlace (records : List Record) : List Member → ℕ → Type 0 where
+  pub data InPlace (records : List Record) : List AlignedMember → ℕ → Type 0 where
     none : InPlace records [] 1
-    also : (m : Member) (members : List Member) (alignment largest : ℕ) → Aligns records m.type (Ok alignment)
+    also : (m : AlignedMember) (members : List AlignedMember) (alignment largest : ℕ) → Aligns records m.type (Ok alignment)
         → decided_by m (Ok alignment) ≡ None → InPlace records members largest
         → InPlace records (m ∷ members) (max alignment largest)
 
@@ -110,7 +110,7 @@ mutual
 abbrev pub Needs : List Record → ℕ → ℕ → Type 0
 Needs records id type =
     (shape_in records id ≡ SameAs type)
-    ⊎ ((size largest : ℕ) × (before after : List Member) × (m : Member)
+    ⊎ ((size largest : ℕ) × (before after : List AlignedMember) × (m : AlignedMember)
     × (shape_in records id ≡ Composed size (before ++ m ∷ after)) × InPlace records before largest × (m.type ≡ type))
 
 -- A type cannot be aligned, because it is one of a set of types each of which needs another of them.

@@ -5,7 +5,7 @@ use Rattle.std.proofs.lemmas.Bool.{eqb-true}
 use Rattle.btf_model.specs.Made.{int, ptr, array, struct, typedef}
 use Rattle.btf_model.specs.Record.{Record, unknown}
 use Rattle.btf_model.specs.Refusal.{UnknownBtfType, UnexpectedBtfType, MaximumTypeDepthReached}
-use Rattle.btf_layout_model.specs.Alignment.{Member, members_in, is_in_place, Aligns, Needs, HasAlignment}
+use Rattle.btf_layout_model.specs.Alignment.{AlignedMember, aligned_members_in, is_in_place, Aligns, Needs, HasAlignment}
 use Rattle.btf_layout_model.specs.Alignment.Aligns.{unaligned, fixed, same_as, decided, all}
 use Rattle.btf_layout_model.specs.Alignment.InPlace.{none, also}
 
@@ -30,11 +30,11 @@ without : Aligns numbers 0 (Err (UnexpectedBtfType 0)) × Aligns numbers 8 (Err 
 without = (unaligned 0 (UnexpectedBtfType 0) refl, unaligned 8 (UnexpectedBtfType 8) refl, unaligned 9 (UnknownBtfType 9) refl)
 
 -- the members of `struct { char a; int b; }`: their bits count from the beginning
-members : members_in 0x04000002 (1 ∷ 2 ∷ 0 ∷ 2 ∷ 1 ∷ 32 ∷ []) ≡ record { type = 2; bit = 0; bits = 0 } ∷ record { type = 1; bit = 32; bits = 0 } ∷ []
+members : aligned_members_in 0x04000002 (1 ∷ 2 ∷ 0 ∷ 2 ∷ 1 ∷ 32 ∷ []) ≡ record { type = 2; bit = 0; bits = 0 } ∷ record { type = 1; bit = 32; bits = 0 } ∷ []
 members = refl
 
 -- under the kind flag: 3 bits at bit 9
-bit_field : members_in 0x84000001 (1 ∷ 1 ∷ 0x03000009 ∷ []) ≡ record { type = 1; bit = 9; bits = 3 } ∷ []
+bit_field : aligned_members_in 0x84000001 (1 ∷ 1 ∷ 0x03000009 ∷ []) ≡ record { type = 1; bit = 9; bits = 3 } ∷ []
 bit_field = refl
 
 -- an INT of 4 bytes at bit 8 is not in its place, but a bit-field is at any bit
@@ -51,7 +51,7 @@ structs =
     ∷ struct 0 9 3 (0 ∷ 2 ∷ 0 ∷ 0 ∷ 1 ∷ 8 ∷ 0 ∷ 99 ∷ 40 ∷ []) ∷ struct 0 4 1 (0 ∷ 99 ∷ 0 ∷ [])
     ∷ record { name = 0; info = 0x84000001; third = 4; tail = 0 ∷ 1 ∷ 0x03000009 ∷ [] } ∷ []
 
-member : ℕ → ℕ → Member
+member : ℕ → ℕ → AlignedMember
 member type bit = record { type = type; bit = bit; bits = 0 }
 
 -- the alignments of types 1 and 2

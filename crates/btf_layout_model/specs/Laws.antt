@@ -2,7 +2,7 @@
 use Rattle.std.specs.Prelude.{◌≡◌, ℕ, ◌%◌, ◌<◌, ◌≤◌, List, ◌++◌, Result, Ok}
 use Rattle.btf_model.specs.Record.{Record}
 use Rattle.btf_model.specs.Refusal.{Refusal}
-use Rattle.btf_layout_model.specs.Alignment.{Member, Composed, shape_in, pointer_size, HasAlignment}
+use Rattle.btf_layout_model.specs.Alignment.{AlignedMember, Composed, shape_in, pointer_len, HasAlignment}
 
 -- A type has at most one alignment, or one error, and never both.
 abbrev pub AlignmentIsDetermined : Type 0
@@ -14,12 +14,12 @@ AlignmentIsDetermined =
 pub record AlignmentIsSmall : Type 0 where
   pub positive : (records : List Record) (id alignment : ℕ) → HasAlignment records id (Ok alignment) → 0 < alignment
   pub at_most : (records : List Record) (id alignment : ℕ) → HasAlignment records id (Ok alignment)
-      → alignment ≤ pointer_size
+      → alignment ≤ pointer_len
 
 -- The size of a STRUCT or UNION is a multiple of its alignment.
 abbrev pub AlignmentDividesSize : Type 0
 AlignmentDividesSize =
-    (records : List Record) (id size alignment : ℕ) (members : List Member)
+    (records : List Record) (id size alignment : ℕ) (members : List AlignedMember)
     → shape_in records id ≡ Composed size members → HasAlignment records id (Ok alignment)
     → size % alignment ≡ 0
 

@@ -5,7 +5,7 @@ use Rattle.std.proofs.lemmas.Result.{err_from_is_err_and}
 use Rattle.btf_model.specs.Blob.{IsTable, IsRefusal}
 use Rattle.btf_model.specs.Ext.{Ext, IsExt}
 use Rattle.btf_model.specs.Table.{Table}
-use Rattle.btf_elf.specs.Results.{IsReason as IsObjectReason}
+use Rattle.btf_elf.specs.Results.{IsElfError as IsObjectReason}
 use Rattle.btf_elf.specs.declared.error.ObjectError.{ObjectError}
 use Rattle.btf_elf.specs.declared.error.ObjectError.TheVariants as object
 use Rattle.btf_elf_model.specs.Object.{Object, IsObject}
@@ -13,12 +13,12 @@ use Rattle.btf_elf_model.specs.declared.file_header.FileHeader.{FileHeader}
 use Rattle.btf_plain.specs.Error.{refusal_of}
 use Rattle.btf_plain.specs.declared.error.BtfError.{BtfError}
 use Rattle.btf_plain.specs.declared.error.BtfError.TheVariants as plain
-use Rattle.btf_loader_model.specs.Loader.{AreSections, bytes_named}
+use Rattle.btf_loader_model.specs.Loader.{AreRelocationSections, bytes_named}
 use Rattle.btf_loader_model.specs.Refused.{Reason, HasTable, HasReason, IsReasonAmong, sections_reason}
 use Rattle.btf_object_model.specs.Sanitized.{table_name, ext_name}
 use Rattle.btf_relocate_model.specs.Modules.{Targets}
 use Rattle.btf_loader.specs.Results.{setting}
-use Rattle.btf_loader.specs.Errors.{of_object, of_table, of_ext, IsReport, IsCause}
+use Rattle.btf_loader.specs.Errors.{of_object, of_table, of_ext, IsReport, IsLoaderCause}
 use Rattle.btf_loader.specs.declared.error.LoaderError.{LoaderError}
 use Rattle.btf_loader.specs.declared.error.LoaderError.TheVariants as loader
 
@@ -39,9 +39,9 @@ has_table bytes o h table local object header named is = record {
 
 -- the sections of records
 pub are_sections : (o : Object) (h : FileHeader) (section : List ℕ) (local : Table) (e : Ext) (sections : List (ℕ × List (List ℕ))) → h ≡ o.header → Some section ≡ bytes_named o ext_name
-    → IsExt h.order section local.strings (Ok e) → sections ≡ e.relocations → AreSections o.header.order local.strings (bytes_named o ext_name) sections
+    → IsExt h.order section local.strings (Ok e) → sections ≡ e.relocations → AreRelocationSections o.header.order local.strings (bytes_named o ext_name) sections
 are_sections o h section local e sections header has_ext is_ext are =
-    subst (λ (b : Option (List ℕ)). AreSections o.header.order local.strings b sections) has_ext
+    subst (λ (b : Option (List ℕ)). AreRelocationSections o.header.order local.strings b sections) has_ext
     (e, subst (λ (x : FileHeader). IsExt x.order section local.strings (Ok e)) header is_ext, are)
 
 module _ (bytes : List ℕ) (targets : Targets) (is_shared refuses_errors : Bool) where
@@ -49,32 +49,32 @@ module _ (bytes : List ℕ) (targets : Targets) (is_shared refuses_errors : Bool
   Is reason = IsReasonAmong bytes targets is_shared refuses_errors reason
 
   -- the bytes are no object
-  pub object_cause : (e : ObjectError) → IsObjectReason bytes e → IsCause Is (of_object e)
+  pub object_cause : (e : ObjectError) → IsObjectReason bytes e → IsLoaderCause Is (of_object e)
   object_cause (object.Parse p) is = (p, refl, is)
   object_cause object.OutOfMemory is = tt
 
   -- the object has no table
-  pub no_table : (o : Object) → IsObject bytes o → bytes_named o table_name ≡ None → IsCause Is loader.NoTable
+  pub no_table : (o : Object) → IsObject bytes o → bytes_named o table_name ≡ None → IsLoaderCause Is loader.NoTable
   no_table o object none = (o, object, none)
 
   -- the section has no table
   pub table_cause : (o : Object) (h : FileHeader) (table : List ℕ) (e : BtfError) → IsObject bytes o → h ≡ o.header → Some table ≡ bytes_named o table_name
-      → IfSome (refusal_of e) (IsRefusal h.order table) → IsCause Is (of_table e)
+      → IfSome (refusal_of e) (IsRefusal h.order table) → IsLoaderCause Is (of_table e)
   table_cause o h table e object header named refused =
       let here : IfSome (refusal_of e) (IsRefusal o.header.order table) = subst (λ (x : FileHeader). IfSome (refusal_of e) (IsRefusal x.order table)) header refused in
-      elim e as (λ (x : BtfError). IfSome (refusal_of x) (IsRefusal o.header.order table) → IsCause Is (of_table x))
+      elim e as (λ (x : BtfError). IfSome (refusal_of x) (IsRefusal o.header.order table) → IsLoaderCause Is (of_table x))
       [ plain.OutOfMemory ↦ λ _. tt | _ ↦ λ is. (_, refl, (o, table, object, sym named, is)) ] here
 
   -- the section with relocation records is refused
   pub ext_cause : (o : Object) (h : FileHeader) (local : Table) (ext : List ℕ) (e : BtfError) → HasTable bytes o local → h ≡ o.header → Some ext ≡ bytes_named o ext_name
-      → IfSome (refusal_of e) (λ f. IsExt h.order ext local.strings (Err f)) → IsCause Is (of_ext e)
+      → IfSome (refusal_of e) (λ f. IsExt h.order ext local.strings (Err f)) → IsLoaderCause Is (of_ext e)
   ext_cause o h local ext e has header named refused =
       let here : IfSome (refusal_of e) (λ f. IsExt o.header.order ext local.strings (Err f)) = subst (λ (x : FileHeader). IfSome (refusal_of e) (λ f. IsExt x.order ext local.strings (Err f))) header refused in
-      elim e as (λ (x : BtfError). IfSome (refusal_of x) (λ f. IsExt o.header.order ext local.strings (Err f)) → IsCause Is (of_ext x))
+      elim e as (λ (x : BtfError). IfSome (refusal_of x) (λ f. IsExt o.header.order ext local.strings (Err f)) → IsLoaderCause Is (of_ext x))
       [ plain.OutOfMemory ↦ λ _. tt | _ ↦ λ is. (_, refl, (o, local, ext, has, sym named, is)) ] here
 
   module _ (o : Object) (local : Table) (sections : List (ℕ × List (List ℕ))) (has : HasTable bytes o local)
-      (are : AreSections o.header.order local.strings (bytes_named o ext_name) sections) where
+      (are : AreRelocationSections o.header.order local.strings (bytes_named o ext_name) sections) where
     abbrev pub found : Option Reason
     found = sections_reason (setting local targets) is_shared refuses_errors o bytes sections
 
@@ -82,7 +82,7 @@ module _ (bytes : List ℕ) (targets : Targets) (is_shared refuses_errors : Bool
     has_reason reason is = record { object = o; local = local; has_table = has; sections = sections; are_sections = are; reason_is = is }
 
     -- a section of records is refused
-    pub section_cause : (e : LoaderError) → IsReport found e → IsCause Is e
+    pub section_cause : (e : LoaderError) → IsReport found e → IsLoaderCause Is e
     section_cause (loader.SectionName n) is = has_reason _ is
     section_cause (loader.SharedPlace i) is = has_reason _ is
     section_cause (loader.Refused n i cause) is = has_reason _ is

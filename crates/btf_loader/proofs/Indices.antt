@@ -16,7 +16,7 @@ use Rattle.btf_elf_model.specs.Object.{Object, section_name}
 use Rattle.btf_elf_model.specs.Section.{has_bytes}
 use Rattle.btf_elf_model.specs.declared.section_header.SectionHeader.{SectionHeader}
 use Rattle.btf_object_model.specs.Layout.{name_limit}
-use Rattle.btf_loader.specs.Names.{HasIndices, HasIndicesFrom, index_in, is_code}
+use Rattle.btf_loader.specs.Names.{HasIndices, HasIndicesFrom, name_index_in, is_code}
 
 abbrev pub Named : Type 0
 Named = BTreeMap (Bor (List ℕ)) ℕ
@@ -33,7 +33,7 @@ pub added : (old new : Named) (o : Object) (i : ℕ) (s : SectionHeader) (key : 
     → HasIndicesFrom old o (i + 1) → HasIndicesFrom new o i
 added old new o i s key here some is updates before name short =
     updates.0 name
-    ∙ ap (λ (b : Bool). cond b (Some i) (index_in old name)) (is_eq-slice_cmp key.now name.now ∙ ap (λ (k : List ℕ). bytes_eq k name.now) is)
+    ∙ ap (λ (b : Bool). cond b (Some i) (name_index_in old name)) (is_eq-slice_cmp key.now name.now ∙ ap (λ (k : List ℕ). bytes_eq k name.now) is)
     ∙ ap (λ (rest : Option ℕ). cond (bytes_eq (section_name o s) name.now) (Some i) rest) (before name short)
     ∙ sym (ap (λ (b : Bool). cond (b && bytes_eq (section_name o s) name.now) (Some i) (position_from (is_code o name.now) (i + 1) (drop (i + 1) o.sections))) some)
     ∙ sym (from_here o i s name.now here)

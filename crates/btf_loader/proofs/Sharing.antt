@@ -18,7 +18,7 @@ use Rattle.btf_elf_model.specs.Replaced.{shares_bytes}
 use Rattle.btf_elf_model.specs.Section.{has_bytes}
 use Rattle.btf_elf_model.specs.declared.section_header.SectionHeader.{SectionHeader}
 use Rattle.btf_loader_model.specs.Refused.{shares_with, shares_place}
-use Rattle.btf_loader.specs.Places.{is_placed, start_of, end_of, of_placed, AreOf, IsPlace, HasNoPlace, Extends}
+use Rattle.btf_loader.specs.Places.{has_byte, start_of, end_of, of_placed, AreSectionNumbers, IsPlace, HasNoPlace, ExtendsNumbers}
 
 -- ---- counts
 
@@ -46,18 +46,18 @@ one_placed : (b : Bool) (p : ℕ → Bool) (n : ℕ) (rest : List ℕ) (k : ℕ)
 one_placed false p n rest k is = is ∙ omega arith
 one_placed true p n rest k is = sum_by-cons (λ x. cond (p x) 1 0) n rest ∙ ap (λ (j : ℕ). cond (p n) 1 0 + j) is
 
-pub count_placed : (p : ℕ → Bool) (number : SectionHeader → ℕ) (sections : List SectionHeader) → count_by p (of_placed number sections) ≡ count_by (λ s. is_placed s && p (number s)) sections
+pub count_placed : (p : ℕ → Bool) (number : SectionHeader → ℕ) (sections : List SectionHeader) → count_by p (of_placed number sections) ≡ count_by (λ s. has_byte s && p (number s)) sections
 count_placed p number [] = refl
 count_placed p number (s ∷ rest) =
-    cond_map (is_placed s) number s (filter is_placed rest) p
-    ∙ one_placed (is_placed s) p (number s) (of_placed number rest) (count_by (λ t. is_placed t && p (number t)) rest) (count_placed p number rest)
-    ∙ sym (sum_by-cons (λ t. cond (is_placed t && p (number t)) 1 0) s rest)
+    cond_map (has_byte s) number s (filter has_byte rest) p
+    ∙ one_placed (has_byte s) p (number s) (of_placed number rest) (count_by (λ t. has_byte t && p (number t)) rest) (count_placed p number rest)
+    ∙ sym (sum_by-cons (λ t. cond (has_byte t && p (number t)) 1 0) s rest)
   where
     cond_map : (b : Bool) (f : SectionHeader → ℕ) (t : SectionHeader) (ts : List SectionHeader) (q : ℕ → Bool) → count_by q (map f (cond b (t ∷ ts) ts)) ≡ count_by q (cond b (f t ∷ map f ts) (map f ts))
     cond_map true f t ts q = refl
     cond_map false f t ts q = refl
 
-pub count_of : (p : ℕ → Bool) (number : SectionHeader → ℕ) (sections : List SectionHeader) (numbers : List ℕ) → AreOf number sections numbers → count_by p numbers ≡ count_by (λ s. is_placed s && p (number s)) sections
+pub count_of : (p : ℕ → Bool) (number : SectionHeader → ℕ) (sections : List SectionHeader) (numbers : List ℕ) → AreSectionNumbers number sections numbers → count_by p numbers ≡ count_by (λ s. has_byte s && p (number s)) sections
 count_of p number sections numbers are = sum_by-IsPermutation (λ x. cond (p x) 1 0) (of_placed number sections) numbers are.same ∙ count_placed p number sections
 
 -- ---- sections that share bytes
@@ -70,7 +70,7 @@ one_shares false at len offset size some = refl
 one_shares true at len offset size some = grind (arith, nat_tests)
 
 shares : (at len : ℕ) (s : SectionHeader) → 0 < len
-    → cond (shares_bytes at len s) 1 0 + cond (is_placed s && nat_lt (end_of s) (at + 1)) 1 0 ≡ cond (is_placed s && nat_lt (start_of s) (at + len)) 1 0
+    → cond (shares_bytes at len s) 1 0 + cond (has_byte s && nat_lt (end_of s) (at + 1)) 1 0 ≡ cond (has_byte s && nat_lt (start_of s) (at + len)) 1 0
 unfolding shares_bytes
 shares at len s some = one_shares (has_bytes s) at len s.offset s.size some
 
@@ -99,7 +99,7 @@ other_counts f sections index s at is =
     let counts : count_by f (remove sections index) + cond (f (get_or sections index s)) 1 0 ≡ count_by f sections = sum_by-remove (λ t. cond (f t) 1 0) sections index s lt in
     any_counts f (remove sections index) ∙ grind (arith, nat_tests, counts, one)
 
-shares_itself : (s : SectionHeader) → is_placed s ≡ true → shares_bytes s.offset s.size s ≡ true
+shares_itself : (s : SectionHeader) → has_byte s ≡ true → shares_bytes s.offset s.size s ≡ true
 unfolding shares_bytes
 shares_itself s is = itself (has_bytes s) s.offset s.size is
   where
@@ -109,14 +109,14 @@ shares_itself s is = itself (has_bytes s) s.offset s.size is
 
 -- A section with a byte shares its place exactly if more sections begin before its end than end at its start or before
 -- it, apart from itself.
-pub shared_by_counts : (sections : List SectionHeader) (starts ends : List ℕ) (index : ℕ) (s : SectionHeader) → AreOf start_of sections starts → AreOf end_of sections ends
-    → slice_get sections index ≡ Some s → is_placed s ≡ true
+pub shared_by_counts : (sections : List SectionHeader) (starts ends : List ℕ) (index : ℕ) (s : SectionHeader) → AreSectionNumbers start_of sections starts → AreSectionNumbers end_of sections ends
+    → slice_get sections index ≡ Some s → has_byte s ≡ true
     → shares_place sections index ≡ nat_lt (count_by (λ n. nat_lt n (s.offset + 1)) ends + 1) (count_by (λ n. nat_lt n (s.offset + s.size)) starts)
 shared_by_counts sections starts ends index s are_starts are_ends at is =
     let size : 0 < s.size = ltb-true 0 s.size (and_parts (has_bytes s) (nat_lt 0 s.size) is).1 in
     let f : SectionHeader → Bool = shares_bytes s.offset s.size in
-    let all : count_by f sections + count_by (λ t. is_placed t && nat_lt (end_of t) (s.offset + 1)) sections ≡ count_by (λ t. is_placed t && nat_lt (start_of t) (s.offset + s.size)) sections =
-    sums (λ t. cond (f t) 1 0) (λ t. cond (is_placed t && nat_lt (end_of t) (s.offset + 1)) 1 0) (λ t. cond (is_placed t && nat_lt (start_of t) (s.offset + s.size)) 1 0)
+    let all : count_by f sections + count_by (λ t. has_byte t && nat_lt (end_of t) (s.offset + 1)) sections ≡ count_by (λ t. has_byte t && nat_lt (start_of t) (s.offset + s.size)) sections =
+    sums (λ t. cond (f t) 1 0) (λ t. cond (has_byte t && nat_lt (end_of t) (s.offset + 1)) 1 0) (λ t. cond (has_byte t && nat_lt (start_of t) (s.offset + s.size)) 1 0)
     (λ t. shares s.offset s.size t size) sections in
     let starts_are = count_of (λ n. nat_lt n (s.offset + s.size)) start_of sections starts are_starts in
     let ends_are = count_of (λ n. nat_lt n (s.offset + 1)) end_of sections ends are_ends in
@@ -130,7 +130,7 @@ shared_by_counts sections starts ends index s are_starts are_ends at is =
     lt_moves a b c is = grind (arith, nat_tests)
 
 -- A section without a byte shares its place with none.
-pub not_shared : (sections : List SectionHeader) (index : ℕ) (s : SectionHeader) → slice_get sections index ≡ Some s → is_placed s ≡ false → shares_place sections index ≡ false
+pub not_shared : (sections : List SectionHeader) (index : ℕ) (s : SectionHeader) → slice_get sections index ≡ Some s → has_byte s ≡ false → shares_place sections index ≡ false
 unfolding shares_bytes
 not_shared sections index s at is =
     ap (λ (o : Option SectionHeader). option_map_or (shares_with (remove sections index)) o false) at
@@ -150,7 +150,7 @@ not_shared sections index s at is =
 -- ---- the numbers of all sections
 
 pub are_of : (number : SectionHeader → ℕ) (sections : List SectionHeader) (index : ℕ) (items numbers : List ℕ) → length sections ≤ index → items ++ of_placed number (drop index sections) ≡ of_placed number sections
-    → IsPermutation items numbers → IsSorted nat_cmp numbers → AreOf number sections numbers
+    → IsPermutation items numbers → IsSorted nat_cmp numbers → AreSectionNumbers number sections numbers
 are_of number sections index items numbers end all same sorted =
     let none : drop index sections ≡ [] = drop_all index sections end in
     let whole : items ≡ of_placed number sections = sym (append-nil items) ∙ ap (λ (ss : List SectionHeader). items ++ of_placed number ss) (sym none) ∙ all in record {
@@ -159,7 +159,7 @@ are_of number sections index items numbers end all same sorted =
     }
 
 -- a section of an object ends in the file
-pub ends_in : (bytes : List ℕ) (o : Object) (index : ℕ) (s : SectionHeader) → IsObject bytes o → slice_get o.sections index ≡ Some s → is_placed s ≡ true
+pub ends_in : (bytes : List ℕ) (o : Object) (index : ℕ) (s : SectionHeader) → IsObject bytes o → slice_get o.sections index ≡ Some s → has_byte s ≡ true
     → (s.offset < s.offset + s.size) × (s.offset + s.size ≤ length bytes)
 ends_in bytes o index s object at is =
     let parts = and_parts (has_bytes s) (nat_lt 0 s.size) is in
@@ -168,10 +168,10 @@ ends_in bytes o index s object at is =
 
 -- the numbers of the sections from an index on
 pub skips : (number : SectionHeader → ℕ) (sections : List SectionHeader) (index : ℕ) → HasNoPlace sections index → of_placed number (drop (index + 1) sections) ≡ of_placed number (drop index sections)
-skips number [] index none = ap (map number) (ap (filter is_placed) (drop_all (index + 1) [] (omega arith) ∙ sym (drop_all index [] (omega arith))))
+skips number [] index none = ap (map number) (ap (filter has_byte) (drop_all (index + 1) [] (omega arith) ∙ sym (drop_all index [] (omega arith))))
 skips number (s ∷ rest) zero none =
     ap (λ (k : ℕ). of_placed number (drop k (s ∷ rest))) (add-one zero)
-    ∙ sym (ap (λ (b : Bool). map number (cond b (s ∷ filter is_placed rest) (filter is_placed rest))) (none s refl))
+    ∙ sym (ap (λ (b : Bool). map number (cond b (s ∷ filter has_byte rest) (filter has_byte rest))) (none s refl))
 skips number (s ∷ rest) (suc index) none =
     ap (λ (k : ℕ). of_placed number (drop k (s ∷ rest))) (add-one (suc index))
     ∙ ap (λ (k : ℕ). of_placed number (drop k rest)) (sym (add-one index))
@@ -184,21 +184,21 @@ takes number sections index start end p =
     let lt : index < length sections = slice_get_within sections index s p.here in
     let rest : drop index sections ≡ s ∷ drop (index + 1) sections =
     drop-cons sections index s lt ∙ ap (λ (t : SectionHeader). t ∷ drop (suc index) sections) (get_or_from_slice_get sections index s s p.here) ∙ ap (λ (k : ℕ). s ∷ drop k sections) (sym (add-one index)) in
-    sym (ap (of_placed number) rest ∙ ap (λ (b : Bool). map number (cond b (s ∷ filter is_placed (drop (index + 1) sections)) (filter is_placed (drop (index + 1) sections)))) p.placed)
+    sym (ap (of_placed number) rest ∙ ap (λ (b : Bool). map number (cond b (s ∷ filter has_byte (drop (index + 1) sections)) (filter has_byte (drop (index + 1) sections)))) p.placed)
 
 pub extends : (number : SectionHeader → ℕ) (sections : List SectionHeader) (index start end : ℕ) (p : IsPlace sections index start end) (n : ℕ) (old new : List ℕ)
-    → new ≡ old ++ n ∷ [] → n ≡ number p.section → Extends number sections index old new
+    → new ≡ old ++ n ∷ [] → n ≡ number p.section → ExtendsNumbers number sections index old new
 extends number sections index start end p n old new is n_is =
     ap (λ (xs : List ℕ). xs ++ of_placed number (drop (index + 1) sections)) is
     ∙ append_assoc old (n ∷ []) (of_placed number (drop (index + 1) sections))
     ∙ ap (λ (k : ℕ). old ++ k ∷ of_placed number (drop (index + 1) sections)) n_is
     ∙ ap (λ (xs : List ℕ). old ++ xs) (takes number sections index start end p)
 
-pub stays : (number : SectionHeader → ℕ) (sections : List SectionHeader) (index : ℕ) (old : List ℕ) → HasNoPlace sections index → Extends number sections index old old
+pub stays : (number : SectionHeader → ℕ) (sections : List SectionHeader) (index : ℕ) (old : List ℕ) → HasNoPlace sections index → ExtendsNumbers number sections index old old
 stays number sections index old none = ap (λ (xs : List ℕ). old ++ xs) (skips number sections index none)
 
 -- the same facts about the section of an index that has a place, or has none
-pub shared_by_place : (sections : List SectionHeader) (starts ends : List ℕ) (index start end : ℕ) → AreOf start_of sections starts → AreOf end_of sections ends → IsPlace sections index start end
+pub shared_by_place : (sections : List SectionHeader) (starts ends : List ℕ) (index start end : ℕ) → AreSectionNumbers start_of sections starts → AreSectionNumbers end_of sections ends → IsPlace sections index start end
     → nat_lt (count_by (λ n. nat_lt n (start + 1)) ends + 1) (count_by (λ n. nat_lt n end) starts) ≡ shares_place sections index
 shared_by_place sections starts ends index start end are_starts are_ends p =
     ap (λ (k : ℕ). nat_lt (count_by (λ n. nat_lt n (k + 1)) ends + 1) (count_by (λ n. nat_lt n end) starts)) p.start_is

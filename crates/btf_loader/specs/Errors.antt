@@ -38,12 +38,12 @@ Reports found (Ok _) = found ≡ None
 Reports found (Err e) = IsReport found e
 
 -- The error is a reason to refuse an object, or reports that an allocation failed.
-abbrev pub IsCause : (Option Reason → Type 0) → LoaderError → Type 0
-IsCause Is (Object e) = (p : ParseError) × (e ≡ object.Parse p) × Is (Some (reason.BadObject p))
-IsCause Is NoTable = Is (Some reason.NoTable)
-IsCause Is (Table e) = (f : Refusal) × (refusal_of e ≡ Some f) × Is (Some (reason.BadTable f))
-IsCause Is (Ext e) = (f : Refusal) × (refusal_of e ≡ Some f) × Is (Some (reason.BadExt f))
-IsCause Is (SectionName name_offset) = Is (Some (reason.BadSectionName name_offset))
-IsCause Is (SharedPlace index) = Is (Some (reason.SharedPlace index))
-IsCause Is (Refused name_offset index cause) = Is (Some (reason.BadRecord name_offset index cause))
-IsCause Is OutOfMemory = ⊤
+abbrev pub IsLoaderCause : (Option Reason → Type 0) → LoaderError → Type 0
+IsLoaderCause Is (Object e) = (p : ParseError) × (e ≡ object.Parse p) × Is (Some (reason.BadObject p))
+IsLoaderCause Is NoTable = Is (Some reason.NoTable)
+IsLoaderCause Is (Table e) = (f : Refusal) × (refusal_of e ≡ Some f) × Is (Some (reason.BadTable f))
+IsLoaderCause Is (Ext e) = (f : Refusal) × (refusal_of e ≡ Some f) × Is (Some (reason.BadExt f))
+IsLoaderCause Is (SectionName name_offset) = Is (Some (reason.BadSectionName name_offset))
+IsLoaderCause Is (SharedPlace index) = Is (Some (reason.SharedPlace index))
+IsLoaderCause Is (Refused name_offset index cause) = Is (Some (reason.BadRecord name_offset index cause))
+IsLoaderCause Is OutOfMemory = ⊤

@@ -5,7 +5,7 @@ use Rattle.btf_loader_model.specs.Loader.{Outcomes, IsRelocated}
 use Rattle.btf_loader_model.specs.Refused.{IsReason}
 use Rattle.btf_object.specs.Errors as object
 use Rattle.btf_object_model.specs.Sanitized.{Target}
-use Rattle.btf_loader.specs.Errors.{IsCause}
+use Rattle.btf_loader.specs.Errors.{IsLoaderCause}
 use Rattle.btf_loader.specs.declared.error.PrepareError.{PrepareError}
 use Rattle.btf_loader.specs.declared.error.PrepareError.TheVariants.{Relocate, Sanitize}
 
@@ -13,7 +13,7 @@ use Rattle.btf_loader.specs.declared.error.PrepareError.TheVariants.{Relocate, S
 -- rewritten for this reason.
 abbrev pub IsPrepareCause : List ℕ → Table → Bool → Bool → Target → PrepareError → Type 0
 IsPrepareCause bytes target is_shared refuses_errors kernel (Relocate e) =
-    IsCause (IsReason bytes target is_shared refuses_errors) e
+    IsLoaderCause (IsReason bytes target is_shared refuses_errors) e
 IsPrepareCause bytes target is_shared refuses_errors kernel (Sanitize e) =
     (middle : List ℕ) × (outcomes : List (ℕ × Outcomes)) × IsRelocated bytes target is_shared outcomes middle
-    × object.IsCause middle kernel e
+    × object.IsSanitizeCause middle kernel e

@@ -3,7 +3,7 @@
 ghost use Rattle.std.specs.Prelude.{◌≡◌, false, length, map, option_map, None, IfOk, IfErr, OnOk};
 ghost use Rattle.btf_loader_model.specs.Loader.{IsRelocated, IsRelocatedAmong, any_error, bytes_named};
 ghost use Rattle.btf_loader_model.specs.Refused.{IsReason, IsReasonAmong};
-ghost use Rattle.btf_loader.specs.Errors.{IsCause};
+ghost use Rattle.btf_loader.specs.Errors.{IsLoaderCause};
 ghost use Rattle.btf_loader.specs.Results.{outcomes_of, refuses_errors};
 ghost use Rattle.btf_loader.specs.declared.step.Refusals.TheVariants.{Refuse};
 ghost use Rattle.btf_relocate.specs.Modules.{targets_view};
@@ -49,7 +49,7 @@ pub fn relocate_object(
     ensures accepted { OnOk result (IsReason bytes.now target.now (is_shared policy)
         (refuses_errors refusals) None) }
     // An error is the first reason in the stated order.
-    ensures cause { IfErr result (IsCause (IsReason bytes.now target.now (is_shared policy)
+    ensures cause { IfErr result (IsLoaderCause (IsReason bytes.now target.now (is_shared policy)
         (refuses_errors refusals))) }
 {
     let hash_builder: BuildHasherDefault<FoldHasher> = BuildHasherDefault::new();
@@ -77,7 +77,7 @@ pub fn relocate_object_with<H: BuildHasher + Clone + Drop>(
     ensures accepted { OnOk result (IsReason bytes.now target.now (is_shared policy)
         (refuses_errors refusals) None) }
     // An error is the first reason in the stated order.
-    ensures cause { IfErr result (IsCause (IsReason bytes.now target.now (is_shared policy)
+    ensures cause { IfErr result (IsLoaderCause (IsReason bytes.now target.now (is_shared policy)
         (refuses_errors refusals))) }
 {
     let targets = Targets {
@@ -123,7 +123,7 @@ pub fn relocate_object_among<H: BuildHasher + Clone + Drop>(
         (is_shared policy)
         (refuses_errors refusals) None) }
     // An error is the first reason in the stated order.
-    ensures cause { IfErr result (IsCause (IsReasonAmong bytes.now (targets_view targets.now)
+    ensures cause { IfErr result (IsLoaderCause (IsReasonAmong bytes.now (targets_view targets.now)
         (is_shared policy)
         (refuses_errors refusals))) }
 {

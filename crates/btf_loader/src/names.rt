@@ -3,7 +3,7 @@
 ghost use Rattle.std.specs.Prelude.{◌≡◌, ◌+◌, ◌<◌, ◌∷◌, drop, length, if◌then◌else◌, nat_lt, None, IfOk, OnOk};
 ghost use Rattle.btf_elf_model.specs.Section.{has_bytes};
 ghost use Rattle.btf_object_model.specs.Layout.{name_limit};
-ghost use Rattle.btf_loader.specs.Names.{HasIndices, HasIndicesFrom, index_in};
+ghost use Rattle.btf_loader.specs.Names.{HasIndices, HasIndicesFrom, name_index_in};
 
 use btf_elf::{Object, SectionHeader};
 use btf_object::NAME_LIMIT;
@@ -65,7 +65,7 @@ pub fn sections_by_name<'a>(
 /// The index that a map has for a name; None for a name of `NAME_LIMIT` bytes or more.
 pub fn index_in(named: &BTreeMap<&[u8], usize>, name: &[u8]) -> Option<usize>
     ensures { result ≡ (if nat_lt (length name.now) name_limit
-        then index_in named.now name.entry else None) }
+        then name_index_in named.now name.entry else None) }
 {
     if name.len() < NAME_LIMIT {
         named.get(name).copied()

@@ -3,7 +3,7 @@
 ghost use Rattle.std.specs.Prelude.{◌≡◌, count_by, nat_lt, IfOk, IfSome, IfNone, OnOk};
 ghost use Rattle.std.specs.List.Sorted.{IsNonDecreasing};
 ghost use Rattle.btf_loader_model.specs.Refused.{shares_place};
-ghost use Rattle.btf_loader.specs.Places.{is_placed, IsPlace, HasNoPlace, HasPlaces, Adds};
+ghost use Rattle.btf_loader.specs.Places.{has_byte, IsPlace, HasNoPlace, HasPlaces, Adds};
 
 use crate::names::has_bytes;
 use btf_elf::{Object, SectionHeader};
@@ -11,7 +11,7 @@ use std::alloc::{AllocError, Global};
 
 /// Whether a section has a byte in the file.
 fn is_placed(section: &SectionHeader) -> bool
-    ensures { result ≡ is_placed section.now }
+    ensures { result ≡ has_byte section.now }
 {
     has_bytes(section) && section.size > 0
 }

@@ -5,7 +5,7 @@ ghost use Rattle.std.specs.List.{list_any};
 ghost use Rattle.btf_ext.specs.Relocation.{relocation};
 ghost use Rattle.btf_model.specs.Text.{text_at};
 ghost use Rattle.btf_loader_model.specs.Loader.{any_error, has_error, index_at, is_error, is_short_at, is_unreadable, relocated_at, relocated_file, section_at};
-ghost use Rattle.btf_loader_model.specs.Refused.{BadRecord, BadSectionName, bad_outcome, bad_record, records_reason, sections_reason, when};
+ghost use Rattle.btf_loader_model.specs.Refused.{BadRecord, BadSectionName, bad_outcome, bad_record, records_reason, sections_reason, reason_when};
 ghost use Rattle.btf_loader.specs.Errors.{Reports};
 ghost use Rattle.btf_loader.specs.Names.{HasIndices};
 ghost use Rattle.btf_loader.specs.Places.{HasPlaces};
@@ -79,7 +79,8 @@ impl<'a, 'o, 't> Loader<'a, 'o, 't> {
             → any_error (map outcomes_of r.items) ≡ false) }
         ensures readable { OnOk result (list_any (is_unreadable self.now.local.now.strings)
             (map relocation relocations.now) ≡ false) }
-        ensures reports { Reports (sections_reason (setting self.now.local.now (targets_view self.now.targets.now))
+        ensures reports { Reports
+            (sections_reason (setting self.now.local.now (targets_view self.now.targets.now))
             (is_shared self.now.policy) (refuses_errors self.now.refusals) self.now.object.now
             file.old (map relocation relocations.now)) result }
     {
@@ -104,14 +105,16 @@ impl<'a, 'o, 't> Loader<'a, 'o, 't> {
         ensures relocated { IfOk result (λ r. (option_map (λ v. v.items) r, file.new)
             ≡ relocated_at (setting self.now.local.now (targets_view self.now.targets.now))
             (is_shared self.now.policy)
-            (section_at (setting self.now.local.now (targets_view self.now.targets.now)) self.now.object.now
+            (section_at (setting self.now.local.now (targets_view self.now.targets.now))
+            self.now.object.now
             section.now.0)
             file.old section.now.1.items) }
         ensures refused { IfOk result (λ r. self.now.refusals ≡ Refuse
             → has_error (option_map (λ v. v.items) r) ≡ false) }
         ensures readable { OnOk result
             (is_err (text_at self.now.local.now.strings section.now.0) ≡ false) }
-        ensures reports { Reports (records_reason (setting self.now.local.now (targets_view self.now.targets.now))
+        ensures reports { Reports
+            (records_reason (setting self.now.local.now (targets_view self.now.targets.now))
             (is_shared self.now.policy) (refuses_errors self.now.refusals) self.now.object.now
             file.old (relocation section.now)) result }
     {
@@ -171,11 +174,13 @@ impl<'a, 'o, 't> Loader<'a, 'o, 't> {
         requires named { HasIndices self.now.named.now self.now.object.now }
         requires readable { IfSome self.now.readable_end (IsReadableEnd self.now.local.now.strings) }
         ensures index { IfOk result (λ index. index
-            ≡ index_at (setting self.now.local.now (targets_view self.now.targets.now)) self.now.object.now
+            ≡ index_at (setting self.now.local.now (targets_view self.now.targets.now))
+            self.now.object.now
             name_offset) }
         ensures readable { OnOk result
             (is_err (text_at self.now.local.now.strings name_offset) ≡ false) }
-        ensures reports { Reports (when (is_err (text_at self.now.local.now.strings name_offset))
+        ensures reports { Reports
+            (reason_when (is_err (text_at self.now.local.now.strings name_offset))
             (BadSectionName name_offset)) result }
     {
         let is_short = is_short_at(self.local, name_offset);

@@ -11,11 +11,11 @@ use Rattle.std.proofs.lemmas.Option.{same_Some, none-some, slice_get_within, sli
 use Rattle.std.proofs.lemmas.Slice.Eq.{bytes_eq-Decides}
 use Rattle.btf_model.specs.Blob.{canon}
 use Rattle.btf_elf_model.specs.Object.{Object, IsObject, section_name}
-use Rattle.btf_elf_model.specs.Replaced.{ReplacesSection, moved, place}
+use Rattle.btf_elf_model.specs.Replaced.{ReplacesSection, moved_header, place}
 use Rattle.btf_elf_model.specs.Section.{has_bytes, name_at}
 use Rattle.btf_elf_model.specs.declared.section_header.SectionHeader.{SectionHeader}
 use Rattle.btf_object_model.specs.Layout.{name_limit}
-use Rattle.btf_object_model.specs.Sanitized.{index_of, table_name}
+use Rattle.btf_object_model.specs.Sanitized.{first_section_index, table_name}
 use Rattle.btf_loader_model.specs.Loader.{code_index}
 use Rattle.btf_loader_model.specs.Prepared.{KeepsCode, RelocatedCodeStays}
 
@@ -38,10 +38,10 @@ found_position : (b : Bool) (found : Option ℕ) (index : ℕ) → (if b then fo
 found_position true found index is = is
 found_position false found index is = absurd (none-some index is)
 
-module _ (old : Object) (at : ℕ) (s : SectionHeader) (given : List ℕ) (new : Object) (first : index_of old table_name ≡ Some at) (header : slice_get old.sections at ≡ Some s)
+module _ (old : Object) (at : ℕ) (s : SectionHeader) (given : List ℕ) (new : Object) (first : first_section_index old table_name ≡ Some at) (header : slice_get old.sections at ≡ Some s)
     (r : ReplacesSection old at s given new) where
   abbrev changed : SectionHeader
-  changed = moved (place old at s (length given)) (length given) s
+  changed = moved_header (place old at s (length given)) (length given) s
 
   -- each name is at the same place
   index_stays : (name : List ℕ) → code_index new name ≡ code_index old name

@@ -6,7 +6,7 @@ use Rattle.std.proofs.lemmas.List.{length-append, append-nil}
 use Rattle.std.proofs.lemmas.List.Concat.{flat_map-append}
 use Rattle.btf_model.specs.declared.endianness.Endianness.{Endianness}
 use Rattle.btf_model.specs.Blob.{word_at}
-use Rattle.btf_model.specs.Ext.{Section, Named, Header, Part, Range, IsSection, section_bytes, BeginsWith, BeginsNoSection, Sections, sections_of, HaveNames, AreNamed, AreSections, HasHeader, HasPart, IsExt, Then, cut_refusal, ext_of}
+use Rattle.btf_model.specs.Ext.{Section, Named, HeaderOfExt, Part, Range, IsSection, ext_section_bytes, BeginsWith, BeginsNoSection, Sections, sections_of, HaveNames, AreNamed, AreSections, HasHeader, HasPart, IsExt, Then, cut_refusal, ext_of}
 use Rattle.btf_model.specs.Refusal.{Refusal}
 use Rattle.btf_model.specs.Text.{text_at}
 use Rattle.btf_model.proofs.Comparisons.{same_ok, same_err}
@@ -49,7 +49,7 @@ then_one {A} first second one next (Err e) (Err f) (inr p) (inr q) =
 -- ---- the header and the ranges
 
 one_header : (order : Endianness) (bytes : List ℕ) → IsOne (HasHeader order bytes)
-one_header order bytes (Ok h) (Ok g) p q = ap (λ (x : Header). Ok x) (p.2 ∙ sym q.2)
+one_header order bytes (Ok h) (Ok g) p q = ap (λ (x : HeaderOfExt). Ok x) (p.2 ∙ sym q.2)
 one_header order bytes (Ok h) (Err f) p q = absurd (header_fits (length bytes) (word_at order 4 bytes) p.0 p.1 q.0)
   where
     header_fits : (len word : ℕ) → 8 ≤ len → word ≤ len → (len < 8) ⊎ (len < word) → ⊥
@@ -74,21 +74,21 @@ one_part order bytes r (Err e) (Err f) p q = ap (λ (x : Refusal). Err x) (p.1 �
 none_after : (order : Endianness) (size : ℕ) (bytes : List ℕ) (ss : List Section) (rest : List ℕ) → Sections order size bytes ss rest → BeginsNoSection order size rest
 none_after order size bytes ss rest all s more is begins =
     let shorter : length rest ≤ length more = all.longest (ss ++ s ∷ []) more (begins_push order size bytes ss s rest more all.cut is begins) in
-    omega (arith, shorter, ap length begins, length-append (section_bytes order s) more, length-section_bytes order s)
+    omega (arith, shorter, ap length begins, length-append (ext_section_bytes order s) more, length-section_bytes order s)
 
 -- no section begins where there are no bytes
-not_empty : (order : Endianness) (s : Section) (more : List ℕ) → [] ≡ section_bytes order s ++ more → ⊥
-not_empty order s more is = omega (arith, ap length is, length-append (section_bytes order s) more, length-section_bytes order s)
+not_empty : (order : Endianness) (s : Section) (more : List ℕ) → [] ≡ ext_section_bytes order s ++ more → ⊥
+not_empty order s more is = omega (arith, ap length is, length-append (ext_section_bytes order s) more, length-section_bytes order s)
 
 -- the last section of a list
 begins_split : (order : Endianness) (size : ℕ) (bytes : List ℕ) (ss : List Section) (s : Section) (more : List ℕ) → BeginsWith order size bytes (ss ++ s ∷ []) more
-    → BeginsWith order size bytes ss (section_bytes order s ++ more) × IsSection size s
+    → BeginsWith order size bytes ss (ext_section_bytes order s ++ more) × IsSection size s
 begins_split order size bytes ss s more begins =
     let parts = split ss begins.0 in (
       (
         parts.0,
-        begins.1 ∙ ap (λ (x : List ℕ). x ++ more) (flat_map-append (section_bytes order) ss (s ∷ []) ∙ ap (λ (x : List ℕ). flat_map (section_bytes order) ss ++ x) (append-nil (section_bytes order s)))
-            ∙ append_assoc (flat_map (section_bytes order) ss) (section_bytes order s) more,
+        begins.1 ∙ ap (λ (x : List ℕ). x ++ more) (flat_map-append (ext_section_bytes order) ss (s ∷ []) ∙ ap (λ (x : List ℕ). flat_map (ext_section_bytes order) ss ++ x) (append-nil (ext_section_bytes order s)))
+            ∙ append_assoc (flat_map (ext_section_bytes order) ss) (ext_section_bytes order s) more,
       ),
       parts.1,
     )
@@ -103,11 +103,11 @@ module _ (order : Endianness) (size : ℕ) (strings : List ℕ) where
   abbrev pub Stops : List ℕ → Option Refusal → Type 0
   Stops rest None = rest ≡ []
   Stops rest (Some f) =
-      ((s : Section) × (more : List ℕ) × IsSection size s × (rest ≡ section_bytes order s ++ more) × (text_at strings s.name ≡ Err f))
+      ((s : Section) × (more : List ℕ) × IsSection size s × (rest ≡ ext_section_bytes order s ++ more) × (text_at strings s.name ≡ Err f))
       ⊎ (BeginsNoSection order size rest × (rest ≢ []) × (f ≡ cut_refusal order size rest))
 
   -- reading does not stop at a section with a name
-  goes_on : (rest : List ℕ) (s : Section) (more text : List ℕ) (x : Option Refusal) → rest ≡ section_bytes order s ++ more → IsSection size s → text_at strings s.name ≡ Ok text → Stops rest x → ⊥
+  goes_on : (rest : List ℕ) (s : Section) (more text : List ℕ) (x : Option Refusal) → rest ≡ ext_section_bytes order s ++ more → IsSection size s → text_at strings s.name ≡ Ok text → Stops rest x → ⊥
   goes_on rest s more text None is section name stops = not_empty order s more (sym stops ∙ is)
   goes_on rest s more text (Some f) is section name (inl p) =
       let same = same_section order size s p.0 more p.1 section p.2 (sym is ∙ p.3) in
@@ -134,22 +134,22 @@ module _ (order : Endianness) (size : ℕ) (strings : List ℕ) where
   pub record Reads (bytes : List ℕ) (named : List Named) (rest : List ℕ) (why : Option Refusal) : Type 0 where
     pub have : HaveNames strings named
     pub are : AllByRecursion (IsSection size) (sections_of named)
-    pub cut : bytes ≡ flat_map (section_bytes order) (sections_of named) ++ rest
+    pub cut : bytes ≡ flat_map (ext_section_bytes order) (sections_of named) ++ rest
     pub stops : Stops rest why
 
   one_reading : (bytes other : List ℕ) (a b : List Named) (rest more : List ℕ) (x y : Option Refusal) → bytes ≡ other → Reads bytes a rest x → Reads other b more y → (a ≡ b) × (x ≡ y)
   one_reading bytes other [] [] rest more x y is p q = (refl, one_stop rest more x y (sym p.cut ∙ is ∙ q.cut) p.stops q.stops)
   one_reading bytes other [] (m ∷ b) rest more x y is p q =
-      absurd (goes_on rest m.section (flat_map (section_bytes order) (sections_of b) ++ more) m.text x
-      (sym p.cut ∙ is ∙ q.cut ∙ append_assoc (section_bytes order m.section) (flat_map (section_bytes order) (sections_of b)) more) q.are.0 q.have.0 p.stops)
+      absurd (goes_on rest m.section (flat_map (ext_section_bytes order) (sections_of b) ++ more) m.text x
+      (sym p.cut ∙ is ∙ q.cut ∙ append_assoc (ext_section_bytes order m.section) (flat_map (ext_section_bytes order) (sections_of b)) more) q.are.0 q.have.0 p.stops)
   one_reading bytes other (n ∷ a) [] rest more x y is p q =
-      absurd (goes_on more n.section (flat_map (section_bytes order) (sections_of a) ++ rest) n.text y
-      (sym q.cut ∙ sym is ∙ p.cut ∙ append_assoc (section_bytes order n.section) (flat_map (section_bytes order) (sections_of a)) rest) p.are.0 p.have.0 q.stops)
+      absurd (goes_on more n.section (flat_map (ext_section_bytes order) (sections_of a) ++ rest) n.text y
+      (sym q.cut ∙ sym is ∙ p.cut ∙ append_assoc (ext_section_bytes order n.section) (flat_map (ext_section_bytes order) (sections_of a)) rest) p.are.0 p.have.0 q.stops)
   one_reading bytes other (n ∷ a) (m ∷ b) rest more x y is p q =
-      let left : List ℕ = flat_map (section_bytes order) (sections_of a) ++ rest in
-      let right : List ℕ = flat_map (section_bytes order) (sections_of b) ++ more in
+      let left : List ℕ = flat_map (ext_section_bytes order) (sections_of a) ++ rest in
+      let right : List ℕ = flat_map (ext_section_bytes order) (sections_of b) ++ more in
       let same = same_section order size n.section m.section left right p.are.0 q.are.0
-      (sym (append_assoc (section_bytes order n.section) (flat_map (section_bytes order) (sections_of a)) rest) ∙ sym p.cut ∙ is ∙ q.cut ∙ append_assoc (section_bytes order m.section) (flat_map (section_bytes order) (sections_of b)) more) in
+      (sym (append_assoc (ext_section_bytes order n.section) (flat_map (ext_section_bytes order) (sections_of a)) rest) ∙ sym p.cut ∙ is ∙ q.cut ∙ append_assoc (ext_section_bytes order m.section) (flat_map (ext_section_bytes order) (sections_of b)) more) in
       let text : n.text ≡ m.text = same_ok n.text m.text (sym p.have.0 ∙ ap (λ (t : Section). text_at strings t.name) same.section_is ∙ q.have.0) in
       let others = one_reading left right a b rest more x y same.rest (record { have = p.have.1; are = p.are.1; cut = refl; stops = p.stops }) (record { have = q.have.1; are = q.are.1; cut = refl; stops = q.stops }) in
       (ap (λ (k : Named). k ∷ a) (same_named n m text same.section_is) ∙ ap (λ (ks : List Named). m ∷ ks) others.0, others.1)
@@ -168,7 +168,7 @@ module _ (order : Endianness) (size : ℕ) (strings : List ℕ) where
   as_read bytes (Err f) p = elim p.2 [
     | inl q ↦
         let last = begins_split order size bytes (sections_of p.0) q.0 q.1 q.2 in
-        (p.0, section_bytes order q.0 ++ q.1, Some f, record { have = p.1; are = last.0.0; cut = last.0.1; stops = inl (q.0, q.1, last.1, refl, q.3) }, refl)
+        (p.0, ext_section_bytes order q.0 ++ q.1, Some f, record { have = p.1; are = last.0.0; cut = last.0.1; stops = inl (q.0, q.1, last.1, refl, q.3) }, refl)
     | inr q ↦
         (p.0, q.0, Some f, record { have = p.1; are = q.1.cut.0; cut = q.1.cut.1; stops = inr (none_after order size bytes (sections_of p.0) q.0 q.1, q.2, q.3) }, refl)
   ]

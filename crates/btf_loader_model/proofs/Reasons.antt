@@ -14,7 +14,7 @@ use Rattle.btf_elf_model.specs.Object.{Object, IsObject, IsParseError}
 use Rattle.btf_elf_model.specs.declared.error.ParseError.{ParseError}
 use Rattle.btf_object_model.specs.Sanitized.{table_name, ext_name}
 use Rattle.btf_relocate_model.specs.Modules.{Targets}
-use Rattle.btf_loader_model.specs.Loader.{AreSections, bytes_named}
+use Rattle.btf_loader_model.specs.Loader.{AreRelocationSections, bytes_named}
 use Rattle.btf_loader_model.specs.Refused.{Reason, BadObject, NoTable, BadTable, BadExt, BadSectionName, SharedPlace, BadRecord, HasReason, IsReasonAmong, ReasonIsDetermined, sections_reason}
 use Rattle.btf_loader_model.proofs.Exts.{one_ext}
 
@@ -22,14 +22,14 @@ use Rattle.btf_loader_model.proofs.Exts.{one_ext}
 ok_or_refused : (order : Endianness) (ext strings : List ℕ) (e : Ext) (f : Refusal) → IsExt order ext strings (Ok e) → IsExt order ext strings (Err f) → ⊥
 ok_or_refused order ext strings e f p q = let is : ◌≡◌ {A = Result Ext Refusal} (Ok e) (Err f) = one_ext order ext strings (Ok e) (Err f) p q in cc
 
-one_list : (order : Endianness) (strings : List ℕ) (b : Option (List ℕ)) (s t : List (ℕ × List (List ℕ))) → AreSections order strings b s → AreSections order strings b t → s ≡ t
+one_list : (order : Endianness) (strings : List ℕ) (b : Option (List ℕ)) (s t : List (ℕ × List (List ℕ))) → AreRelocationSections order strings b s → AreRelocationSections order strings b t → s ≡ t
 one_list order strings None s t p q = p ∙ sym q
 one_list order strings (Some ext) s t p q =
     p.2 ∙ ap (λ (e : Ext). e.relocations) (same_ok p.0 q.0 (one_ext order ext strings (Ok p.0) (Ok q.0) p.1 q.1)) ∙ sym q.2
 
-not_refused : (order : Endianness) (strings : List ℕ) (b : Option (List ℕ)) (ext : List ℕ) (f : Refusal) (s : List (ℕ × List (List ℕ))) → b ≡ Some ext → IsExt order ext strings (Err f) → AreSections order strings b s → ⊥
+not_refused : (order : Endianness) (strings : List ℕ) (b : Option (List ℕ)) (ext : List ℕ) (f : Refusal) (s : List (ℕ × List (List ℕ))) → b ≡ Some ext → IsExt order ext strings (Err f) → AreRelocationSections order strings b s → ⊥
 not_refused order strings b ext f s is refused are =
-    let have = subst (λ (c : Option (List ℕ)). AreSections order strings c s) is are in
+    let have = subst (λ (c : Option (List ℕ)). AreRelocationSections order strings c s) is are in
     ok_or_refused order ext strings have.0 f have.1 refused
 
 none_or_some : (b : Option (List ℕ)) (x : List ℕ) → b ≡ None → b ≡ Some x → ⊥
@@ -43,7 +43,7 @@ module _ (bytes : List ℕ) (targets : Targets) (is_shared refuses_errors : Bool
   abbrev AfterTable : Object → Table → Option Reason → Type 0
   AfterTable o local x =
       ((ext : List ℕ) × (f : Refusal) × (bytes_named o ext_name ≡ Some ext) × IsExt o.header.order ext local.strings (Err f) × (x ≡ Some (BadExt f)))
-      ⊎ ((sections : List (ℕ × List (List ℕ))) × AreSections o.header.order local.strings (bytes_named o ext_name) sections × (found o local sections ≡ x))
+      ⊎ ((sections : List (ℕ × List (List ℕ))) × AreRelocationSections o.header.order local.strings (bytes_named o ext_name) sections × (found o local sections ≡ x))
 
   abbrev AfterBytes : Object → List ℕ → Option Reason → Type 0
   AfterBytes o table x =

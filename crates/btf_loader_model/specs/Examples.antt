@@ -11,10 +11,10 @@ use Rattle.btf_elf_model.specs.Section.{has_bytes, sht_nobits}
 use Rattle.btf_elf_model.specs.declared.section_header.SectionHeader.{SectionHeader}
 use Rattle.btf_relocate_model.specs.declared.error.RelocationError.TheVariants.{BadAccess, BadIndex}
 use Rattle.btf_relocate_model.specs.declared.instruction.Patched.TheVariants.{Written}
-use Rattle.btf_loader_model.specs.Loader.{code_index, index_at, is_short_at, overwritten, any_error, is_unreadable}
-use Rattle.btf_loader_model.specs.Refused.{Reason, BadSectionName, SharedPlace, BadRecord, bad_record, shares_place, shared_place, section_reason, when}
+use Rattle.btf_loader_model.specs.Loader.{code_index, index_at, is_short_at, file_overwritten, any_error, is_unreadable}
+use Rattle.btf_loader_model.specs.Refused.{Reason, BadSectionName, SharedPlace, BadRecord, bad_record, shares_place, shared_place, section_reason, reason_when}
 
-two_bytes_in_place : overwritten 1 (7 ∷ 8 ∷ []) (1 ∷ 2 ∷ 3 ∷ 4 ∷ []) ≡ 1 ∷ 7 ∷ 8 ∷ 4 ∷ []
+two_bytes_in_place : file_overwritten 1 (7 ∷ 8 ∷ []) (1 ∷ 2 ∷ 3 ∷ 4 ∷ []) ≡ 1 ∷ 7 ∷ 8 ∷ 4 ∷ []
 two_bytes_in_place = refl
 
 -- the second section of records has an error; one that names no section of the object has none
@@ -82,6 +82,6 @@ place_before_records :
 place_before_records g o name_offset index readable found shared =
     let bad : Option Reason = Some (BadRecord name_offset 0 BadAccess) in
     let place : Option Reason = option_and_then (shared_place o) (index_at g o name_offset) in
-    ap (λ (b : Bool). option_or (when b (BadSectionName name_offset)) (option_or place bad)) readable
+    ap (λ (b : Bool). option_or (reason_when b (BadSectionName name_offset)) (option_or place bad)) readable
     ∙ ap (λ (i : Option ℕ). option_or (option_and_then (shared_place o) i) bad) found
-    ∙ ap (λ (b : Bool). option_or (when b (SharedPlace index)) bad) shared
+    ∙ ap (λ (b : Bool). option_or (reason_when b (SharedPlace index)) bad) shared

@@ -15,7 +15,7 @@ use Rattle.btf_elf_model.specs.Object.{Object, IsObject, section_name, section_b
 use Rattle.btf_elf_model.specs.Section.{has_bytes}
 use Rattle.btf_elf_model.specs.declared.section_header.SectionHeader.{SectionHeader}
 use Rattle.btf_object_model.specs.Layout.{name_limit}
-use Rattle.btf_object_model.specs.Sanitized.{index_of, table_name, ext_name}
+use Rattle.btf_object_model.specs.Sanitized.{first_section_index, table_name, ext_name}
 use Rattle.btf_relocate_model.specs.Modules.{KernelSetting, Targets, alone, relocated_section_among}
 use Rattle.btf_relocate_model.specs.declared.error.RelocationError.{RelocationError}
 use Rattle.btf_relocate_model.specs.declared.instruction.Patched.{Patched}
@@ -52,15 +52,15 @@ abbrev pub section_at : KernelSetting → Object → ℕ → Option SectionHeade
 section_at g o name_offset = option_and_then (slice_get o.sections) (index_at g o name_offset)
 
 -- the file with other bytes from an offset on
-abbrev pub overwritten : ℕ → List ℕ → List ℕ → List ℕ
-overwritten at new file = take at file ++ new ++ drop (at + length new) file
+abbrev pub file_overwritten : ℕ → List ℕ → List ℕ → List ℕ
+file_overwritten at new file = take at file ++ new ++ drop (at + length new) file
 
 -- The outcomes of the records of a section, and the file with its code relocated. Without a section the file stays.
 abbrev pub relocated_at : KernelSetting → Bool → Option SectionHeader → List ℕ → List (List ℕ) → Outcomes × List ℕ
 relocated_at g is_shared None file records = (None, file)
 relocated_at g is_shared (Some s) file records =
     let r = relocated_section_among g.local g.targets is_shared (slice s.offset s.size file) records in
-    (Some r.0, overwritten s.offset r.1 file)
+    (Some r.0, file_overwritten s.offset r.1 file)
 
 -- the outcomes of a section of records, before those of later ones
 abbrev pub then_section : ℕ × Outcomes → List (ℕ × Outcomes) × List ℕ → List (ℕ × Outcomes) × List ℕ
@@ -94,12 +94,12 @@ any_error sections = list_any (λ (s : ℕ × Outcomes). has_error s.1) sections
 
 -- the bytes of the first section that has a name
 abbrev pub bytes_named : Object → List ℕ → Option (List ℕ)
-bytes_named o name = option_map (section_bytes o) (option_and_then (slice_get o.sections) (index_of o name))
+bytes_named o name = option_map (section_bytes o) (option_and_then (slice_get o.sections) (first_section_index o name))
 
 -- The sections of relocation records in the bytes of `.BTF.ext`, for a table with these strings; none without the bytes.
-abbrev pub AreSections : Endianness → List ℕ → Option (List ℕ) → List (ℕ × List (List ℕ)) → Type 0
-AreSections order strings None sections = sections ≡ []
-AreSections order strings (Some bytes) sections =
+abbrev pub AreRelocationSections : Endianness → List ℕ → Option (List ℕ) → List (ℕ × List (List ℕ)) → Type 0
+AreRelocationSections order strings None sections = sections ≡ []
+AreRelocationSections order strings (Some bytes) sections =
     (e : Ext) × IsExt order bytes strings (Ok e) × (sections ≡ e.relocations)
 
 -- the name of a section of records cannot be read from these strings
@@ -117,7 +117,7 @@ pub record IsRelocatedAmong (bytes : List ℕ) (targets : Targets) (is_shared : 
   pub local : Table
   pub is_table : IsTable object.header.order table local
   pub sections : List (ℕ × List (List ℕ))
-  pub are_sections : AreSections object.header.order local.strings (bytes_named object ext_name) sections
+  pub are_sections : AreRelocationSections object.header.order local.strings (bytes_named object ext_name) sections
   pub are_readable : list_any (is_unreadable local.strings) sections ≡ false
   pub relocated : (outcomes, file)
       ≡ relocated_file (record { local = local; targets = targets }) is_shared object bytes sections

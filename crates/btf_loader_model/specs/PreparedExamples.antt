@@ -6,7 +6,7 @@ use Rattle.btf_model.specs.Record.{Record, unknown, kind_of}
 use Rattle.btf_model.specs.Table.{Table}
 use Rattle.btf_model.specs.declared.endianness.Endianness.TheVariants.{Little}
 use Rattle.btf_relocate_model.specs.Candidates.{candidates}
-use Rattle.btf_relocate_model.specs.Resolution.{Setting, resolution}
+use Rattle.btf_relocate_model.specs.Resolution.{TablePair, resolution}
 use Rattle.btf_relocate_model.specs.Types.{walk}
 use Rattle.btf_relocate_model.specs.declared.error.RelocationError.{RelocationError}
 use Rattle.btf_relocate_model.specs.declared.error.RelocationError.TheVariants.{BadIndex}
@@ -38,7 +38,7 @@ table r = record {
 }
 
 -- the program's table, and the table of the kernel's types, in which `a` is 7
-setting : Record → Setting
+setting : Record → TablePair
 setting r = record { local = table r; target = table (enum64 7) }
 
 -- the value that a record asks for

@@ -18,7 +18,7 @@ use Rattle.btf_object_model.specs.Sanitized.{table_name, ext_name}
 use Rattle.btf_relocate_model.specs.Modules.{KernelSetting, Targets, alone}
 use Rattle.btf_relocate_model.specs.declared.error.RelocationError.{RelocationError}
 use Rattle.btf_relocate_model.specs.declared.instruction.Patched.{Patched}
-use Rattle.btf_loader_model.specs.Loader.{Outcomes, AreSections, bytes_named, index_at, section_at, relocated_at}
+use Rattle.btf_loader_model.specs.Loader.{Outcomes, AreRelocationSections, bytes_named, index_at, section_at, relocated_at}
 
 -- The reasons for which an object is not relocated, apart from allocation failure.
 pub data Reason : Type 0 where
@@ -43,8 +43,8 @@ shares_place sections index = option_map_or (shares_with (remove sections index)
 -- ---- a section of records
 
 -- the reason, if the test holds
-abbrev pub when : Bool → Reason → Option Reason
-when holds reason = if holds then Some reason else None
+abbrev pub reason_when : Bool → Reason → Option Reason
+reason_when holds reason = if holds then Some reason else None
 
 -- The first outcome that is an error, by its index, where the first outcome of the list has this index.
 abbrev pub bad_record : ℕ → ℕ → List (Result Patched RelocationError) → Option Reason
@@ -59,13 +59,13 @@ bad_outcome name_offset (Some outcomes) = bad_record name_offset 0 outcomes
 
 -- the place of the section of an index is shared
 abbrev pub shared_place : Object → ℕ → Option Reason
-shared_place o index = when (shares_place o.sections index) (SharedPlace index)
+shared_place o index = reason_when (shares_place o.sections index) (SharedPlace index)
 
 -- Why a section of records is refused: its name cannot be read; or its code shares its place; or, if errors of records
 -- are refused, the first record with an error.
 abbrev pub section_reason : KernelSetting → Bool → Object → ℕ → Outcomes → Option Reason
 section_reason g refuses_errors o name_offset outcomes =
-    option_or (when (is_err (text_at g.local.strings name_offset)) (BadSectionName name_offset))
+    option_or (reason_when (is_err (text_at g.local.strings name_offset)) (BadSectionName name_offset))
     (option_or (option_and_then (shared_place o) (index_at g o name_offset))
     (if refuses_errors then bad_outcome name_offset outcomes else None))
 
@@ -98,7 +98,7 @@ pub record HasReason (bytes : List ℕ) (targets : Targets) (is_shared refuses_e
   pub local : Table
   pub has_table : HasTable bytes object local
   pub sections : List (ℕ × List (List ℕ))
-  pub are_sections : AreSections object.header.order local.strings (bytes_named object ext_name) sections
+  pub are_sections : AreRelocationSections object.header.order local.strings (bytes_named object ext_name) sections
   pub reason_is : sections_reason (record { local = local; targets = targets }) is_shared refuses_errors object bytes
       sections ≡ reason
 

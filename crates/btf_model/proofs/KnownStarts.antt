@@ -11,7 +11,7 @@ use Rattle.btf_model.specs.Refusal.{Refusal}
 use Rattle.btf_model.specs.Table.{Table}
 use Rattle.btf_model.specs.Fields.{Pair}
 use Rattle.btf_model.specs.Compat.{Plain, Walked, ComparedInOrder, AreKnown, pair_eq, firsts}
-use Rattle.btf_model.specs.Laws.{AreIds}
+use Rattle.btf_model.specs.Laws.{AreIdsOfPair}
 use Rattle.btf_model.proofs.Known.{Among, HasIds, without, known_pairs, known_pairs_among, length-known_pairs}
 use Rattle.btf_model.proofs.Firsts.{eq_itself}
 use Rattle.btf_model.proofs.RunStates.{among_append, among_of_firsts}
@@ -103,8 +103,8 @@ firsts_few local target starts known =
 
 -- ---- each of them
 
-pub all_known : (local target : Table) (ps : List Pair) → ((q : Pair) → Among ps q → HasIds local target q) → All (AreIds local target) ps
-all_known local target [] known = All-nil (AreIds local target)
+pub all_known : (local target : Table) (ps : List Pair) → ((q : Pair) → Among ps q → HasIds local target q) → All (AreIdsOfPair local target) ps
+all_known local target [] known = All-nil (AreIdsOfPair local target)
 all_known local target (p ∷ ps) known =
     let here = known p (inl refl) in
-    All-cons (AreIds local target) p ps (slice_get_within local.records p.local here.0 here.2, slice_get_within target.records p.target here.1 here.3) (all_known local target ps (λ q m. known q (inr m)))
+    All-cons (AreIdsOfPair local target) p ps (slice_get_within local.records p.local here.0 here.2, slice_get_within target.records p.target here.1 here.3) (all_known local target ps (λ q m. known q (inr m)))

@@ -8,25 +8,25 @@ use Rattle.std.proofs.lemmas.List.Concat.{flat_map-append}
 use Rattle.btf_model.specs.Word.{word, word_of}
 use Rattle.btf_model.specs.declared.endianness.Endianness.{Endianness}
 use Rattle.btf_model.specs.Blob.{word_at}
-use Rattle.btf_model.specs.Ext.{Section, IsSection, section_bytes, BeginsWith, BeginsNoSection, Sections}
+use Rattle.btf_model.specs.Ext.{Section, IsSection, ext_section_bytes, BeginsWith, BeginsNoSection, Sections}
 use Rattle.btf_model.proofs.Words.{IsBytes, IsBytes-take, IsBytes-drop, word_of-word, word-word_of, word_of_below, length-word}
 
-pub length-section_bytes : (order : Endianness) (s : Section) → length (section_bytes order s) ≡ 8 + length s.bytes
+pub length-section_bytes : (order : Endianness) (s : Section) → length (ext_section_bytes order s) ≡ 8 + length s.bytes
 length-section_bytes order s = omega (arith, length-append (word order s.name ++ word order s.count) s.bytes, length-append (word order s.name) (word order s.count), length-word order s.name, length-word order s.count)
 
-regrouped : (order : Endianness) (s : Section) (more : List ℕ) → section_bytes order s ++ more ≡ word order s.name ++ (word order s.count ++ (s.bytes ++ more))
+regrouped : (order : Endianness) (s : Section) (more : List ℕ) → ext_section_bytes order s ++ more ≡ word order s.name ++ (word order s.count ++ (s.bytes ++ more))
 regrouped order s more = ap (λ (x : List ℕ). x ++ more) (append_assoc (word order s.name) (word order s.count) s.bytes) ∙ append_assoc (word order s.name) (word order s.count ++ s.bytes) more ∙ ap (λ (x : List ℕ). word order s.name ++ x) (append_assoc (word order s.count) s.bytes more)
 
-after_name : (order : Endianness) (s : Section) (more : List ℕ) → drop 4 (section_bytes order s ++ more) ≡ word order s.count ++ (s.bytes ++ more)
+after_name : (order : Endianness) (s : Section) (more : List ℕ) → drop 4 (ext_section_bytes order s ++ more) ≡ word order s.count ++ (s.bytes ++ more)
 after_name order s more = ap (drop 4) (regrouped order s more) ∙ drop_at (word order s.name) (word order s.count ++ (s.bytes ++ more)) 4 (length-word order s.name)
 
-pub name_at : (order : Endianness) (s : Section) (more : List ℕ) → s.name < 2 ^ 32 → word_at order 0 (section_bytes order s ++ more) ≡ s.name
+pub name_at : (order : Endianness) (s : Section) (more : List ℕ) → s.name < 2 ^ 32 → word_at order 0 (ext_section_bytes order s ++ more) ≡ s.name
 name_at order s more lt = ap (λ (x : List ℕ). word_of order (take 4 x)) (regrouped order s more) ∙ ap (word_of order) (take_at (word order s.name) (word order s.count ++ (s.bytes ++ more)) 4 (length-word order s.name)) ∙ word_of-word order s.name lt
 
-pub count_at : (order : Endianness) (s : Section) (more : List ℕ) → s.count < 2 ^ 32 → word_at order 4 (section_bytes order s ++ more) ≡ s.count
+pub count_at : (order : Endianness) (s : Section) (more : List ℕ) → s.count < 2 ^ 32 → word_at order 4 (ext_section_bytes order s ++ more) ≡ s.count
 count_at order s more lt = ap (λ (x : List ℕ). word_of order (take 4 x)) (after_name order s more) ∙ ap (word_of order) (take_at (word order s.count) (s.bytes ++ more) 4 (length-word order s.count)) ∙ word_of-word order s.count lt
 
-pub records_after : (order : Endianness) (s : Section) (more : List ℕ) → drop 4 (drop 4 (section_bytes order s ++ more)) ≡ s.bytes ++ more
+pub records_after : (order : Endianness) (s : Section) (more : List ℕ) → drop 4 (drop 4 (ext_section_bytes order s ++ more)) ≡ s.bytes ++ more
 records_after order s more = ap (drop 4) (after_name order s more) ∙ drop_at (word order s.count) (s.bytes ++ more) 4 (length-word order s.count)
 
 -- two sections at the front of the same bytes are equal, and the same bytes follow them
@@ -37,7 +37,7 @@ pub record SameSection (s t : Section) (x y : List ℕ) : Type 0 where
 same_words : (s t : Section) → s.name ≡ t.name → s.count ≡ t.count → s.bytes ≡ t.bytes → s ≡ t
 same_words s t a b c = λ i. record { name = a i; count = b i; bytes = c i }
 
-pub same_section : (order : Endianness) (size : ℕ) (s t : Section) (x y : List ℕ) → IsSection size s → IsSection size t → section_bytes order s ++ x ≡ section_bytes order t ++ y → SameSection s t x y
+pub same_section : (order : Endianness) (size : ℕ) (s t : Section) (x y : List ℕ) → IsSection size s → IsSection size t → ext_section_bytes order s ++ x ≡ ext_section_bytes order t ++ y → SameSection s t x y
 same_section order size s t x y hs ht e =
     let name : s.name ≡ t.name = sym (name_at order s x hs.name) ∙ ap (word_at order 0) e ∙ name_at order t y ht.name in
     let count : s.count ≡ t.count = sym (count_at order s x hs.count) ∙ ap (word_at order 4) e ∙ count_at order t y ht.count in
@@ -50,12 +50,12 @@ same_section order size s t x y hs ht e =
     }
 
 -- if no section begins after a list of sections, no other list is longer
-no_further : (order : Endianness) (size : ℕ) (ss ts : List Section) (rest more : List ℕ) → AllByRecursion (IsSection size) ss → AllByRecursion (IsSection size) ts → BeginsNoSection order size rest → flat_map (section_bytes order) ss ++ rest ≡ flat_map (section_bytes order) ts ++ more → length rest ≤ length more
+no_further : (order : Endianness) (size : ℕ) (ss ts : List Section) (rest more : List ℕ) → AllByRecursion (IsSection size) ss → AllByRecursion (IsSection size) ts → BeginsNoSection order size rest → flat_map (ext_section_bytes order) ss ++ rest ≡ flat_map (ext_section_bytes order) ts ++ more → length rest ≤ length more
 no_further order size [] [] rest more hs ht none e = omega (arith, ap length e)
-no_further order size [] (t ∷ ts) rest more hs ht none e = absurd (none t (flat_map (section_bytes order) ts ++ more) ht.0 (e ∙ append_assoc (section_bytes order t) (flat_map (section_bytes order) ts) more))
-no_further order size (s ∷ ss) [] rest more hs ht none e = omega (arith, ap length e, length-append (section_bytes order s ++ flat_map (section_bytes order) ss) rest)
+no_further order size [] (t ∷ ts) rest more hs ht none e = absurd (none t (flat_map (ext_section_bytes order) ts ++ more) ht.0 (e ∙ append_assoc (ext_section_bytes order t) (flat_map (ext_section_bytes order) ts) more))
+no_further order size (s ∷ ss) [] rest more hs ht none e = omega (arith, ap length e, length-append (ext_section_bytes order s ++ flat_map (ext_section_bytes order) ss) rest)
 no_further order size (s ∷ ss) (t ∷ ts) rest more hs ht none e =
-    let first = same_section order size s t (flat_map (section_bytes order) ss ++ rest) (flat_map (section_bytes order) ts ++ more) hs.0 ht.0 (sym (append_assoc (section_bytes order s) (flat_map (section_bytes order) ss) rest) ∙ e ∙ append_assoc (section_bytes order t) (flat_map (section_bytes order) ts) more) in
+    let first = same_section order size s t (flat_map (ext_section_bytes order) ss ++ rest) (flat_map (ext_section_bytes order) ts ++ more) hs.0 ht.0 (sym (append_assoc (ext_section_bytes order s) (flat_map (ext_section_bytes order) ss) rest) ∙ e ∙ append_assoc (ext_section_bytes order t) (flat_map (ext_section_bytes order) ts) more) in
     no_further order size ss ts rest more hs.1 ht.1 none first.rest
 
 -- no section begins after the longest list of sections
@@ -74,17 +74,17 @@ pub begins_empty : (order : Endianness) (size : ℕ) (bytes : List ℕ) → Begi
 begins_empty order size bytes = (tt, refl)
 
 -- one more section
-pub begins_push : (order : Endianness) (size : ℕ) (bytes : List ℕ) (ss : List Section) (s : Section) (rest more : List ℕ) → BeginsWith order size bytes ss rest → IsSection size s → rest ≡ section_bytes order s ++ more → BeginsWith order size bytes (ss ++ s ∷ []) more
+pub begins_push : (order : Endianness) (size : ℕ) (bytes : List ℕ) (ss : List Section) (s : Section) (rest more : List ℕ) → BeginsWith order size bytes ss rest → IsSection size s → rest ≡ ext_section_bytes order s ++ more → BeginsWith order size bytes (ss ++ s ∷ []) more
 begins_push order size bytes ss s rest more h is e = (
   all_push size ss s h.0 is,
-  h.1 ∙ ap (λ (x : List ℕ). flat_map (section_bytes order) ss ++ x) e ∙ sym (append_assoc (flat_map (section_bytes order) ss) (section_bytes order s) more)
-      ∙ ap (λ (x : List ℕ). flat_map (section_bytes order) ss ++ x ++ more) (sym (append-nil (section_bytes order s)))
-      ∙ ap (λ (x : List ℕ). x ++ more) (sym (flat_map-append (section_bytes order) ss (s ∷ []))),
+  h.1 ∙ ap (λ (x : List ℕ). flat_map (ext_section_bytes order) ss ++ x) e ∙ sym (append_assoc (flat_map (ext_section_bytes order) ss) (ext_section_bytes order s) more)
+      ∙ ap (λ (x : List ℕ). flat_map (ext_section_bytes order) ss ++ x ++ more) (sym (append-nil (ext_section_bytes order s)))
+      ∙ ap (λ (x : List ℕ). x ++ more) (sym (flat_map-append (ext_section_bytes order) ss (s ∷ []))),
 )
 
 -- fewer than two words begin with no section
 pub none_in_short : (order : Endianness) (size : ℕ) (bytes : List ℕ) → length bytes < 8 → BeginsNoSection order size bytes
-none_in_short order size bytes lt s more is e = omega (arith, lt, ap length e, length-append (section_bytes order s) more, length-section_bytes order s)
+none_in_short order size bytes lt s more is e = omega (arith, lt, ap length e, length-append (ext_section_bytes order s) more, length-section_bytes order s)
 
 -- nor do bytes whose count is 0 or whose records are truncated
 pub none_in_cut : (order : Endianness) (size : ℕ) (bytes : List ℕ) (len : ℕ) → 8 ≤ length bytes → len ≡ size * word_at order 4 bytes → (len ≡ 0) ⊎ (length bytes < 8 + len) → BeginsNoSection order size bytes
@@ -93,7 +93,7 @@ none_in_cut order size bytes len le len-is bad s more is e =
     let len-bytes : length s.bytes ≡ len = is.records ∙ ap (λ (n : ℕ). size * n) (sym count) ∙ sym len-is in
     elim bad [
       | inl none ↦ positive size s.count is.some_byte is.some_record (sym is.records ∙ len-bytes ∙ none)
-      | inr cut ↦ omega (arith, cut, len-bytes, ap length e, length-append (section_bytes order s) more, length-section_bytes order s)
+      | inr cut ↦ omega (arith, cut, len-bytes, ap length e, length-append (ext_section_bytes order s) more, length-section_bytes order s)
     ]
   where
     positive : (a b : ℕ) → 0 < a → 0 < b → a * b ≡ 0 → ⊥
@@ -102,7 +102,7 @@ none_in_cut order size bytes len le len-is bad s more is e =
     positive (suc a) (suc b) pa pb e = omega (arith, e)
 
 -- if the bytes have all bytes of a section, they begin with it
-pub begins_section : (order : Endianness) (bytes : List ℕ) (s : Section) (more : List ℕ) → IsBytes bytes → 8 ≤ length bytes → s.name ≡ word_at order 0 bytes → s.count ≡ word_at order 4 bytes → drop 4 (drop 4 bytes) ≡ s.bytes ++ more → bytes ≡ section_bytes order s ++ more
+pub begins_section : (order : Endianness) (bytes : List ℕ) (s : Section) (more : List ℕ) → IsBytes bytes → 8 ≤ length bytes → s.name ≡ word_at order 0 bytes → s.count ≡ word_at order 4 bytes → drop 4 (drop 4 bytes) ≡ s.bytes ++ more → bytes ≡ ext_section_bytes order s ++ more
 begins_section order bytes s more fits le name count cut =
     let four : length (take 4 bytes) ≡ 4 = omega (arith, length-take 4 bytes) in
     let next : length (take 4 (drop 4 bytes)) ≡ 4 = omega (arith, length-take 4 (drop 4 bytes), length-drop 4 bytes) in
@@ -116,14 +116,14 @@ pub word_at_fits : (order : Endianness) (at : ℕ) (bytes : List ℕ) → IsByte
 word_at_fits order at bytes fits = word_of_below order (take 4 (drop at bytes)) (IsBytes-take 4 (drop at bytes) (IsBytes-drop at bytes fits))
 
 -- two lists of sections whose rests have the same length are equal
-same_cut : (order : Endianness) (size : ℕ) (ss ts : List Section) (rest more : List ℕ) → AllByRecursion (IsSection size) ss → AllByRecursion (IsSection size) ts → length rest ≡ length more → flat_map (section_bytes order) ss ++ rest ≡ flat_map (section_bytes order) ts ++ more → (ss ≡ ts) × (rest ≡ more)
+same_cut : (order : Endianness) (size : ℕ) (ss ts : List Section) (rest more : List ℕ) → AllByRecursion (IsSection size) ss → AllByRecursion (IsSection size) ts → length rest ≡ length more → flat_map (ext_section_bytes order) ss ++ rest ≡ flat_map (ext_section_bytes order) ts ++ more → (ss ≡ ts) × (rest ≡ more)
 same_cut order size [] [] rest more hs ht len e = (refl, e)
 same_cut order size [] (t ∷ ts) rest more hs ht len e =
-    absurd (omega (arith, len, ap length e, length-append (section_bytes order t ++ flat_map (section_bytes order) ts) more, length-append (section_bytes order t) (flat_map (section_bytes order) ts), length-section_bytes order t))
+    absurd (omega (arith, len, ap length e, length-append (ext_section_bytes order t ++ flat_map (ext_section_bytes order) ts) more, length-append (ext_section_bytes order t) (flat_map (ext_section_bytes order) ts), length-section_bytes order t))
 same_cut order size (s ∷ ss) [] rest more hs ht len e =
-    absurd (omega (arith, len, ap length e, length-append (section_bytes order s ++ flat_map (section_bytes order) ss) rest, length-append (section_bytes order s) (flat_map (section_bytes order) ss), length-section_bytes order s))
+    absurd (omega (arith, len, ap length e, length-append (ext_section_bytes order s ++ flat_map (ext_section_bytes order) ss) rest, length-append (ext_section_bytes order s) (flat_map (ext_section_bytes order) ss), length-section_bytes order s))
 same_cut order size (s ∷ ss) (t ∷ ts) rest more hs ht len e =
-    let first = same_section order size s t (flat_map (section_bytes order) ss ++ rest) (flat_map (section_bytes order) ts ++ more) hs.0 ht.0 (sym (append_assoc (section_bytes order s) (flat_map (section_bytes order) ss) rest) ∙ e ∙ append_assoc (section_bytes order t) (flat_map (section_bytes order) ts) more) in
+    let first = same_section order size s t (flat_map (ext_section_bytes order) ss ++ rest) (flat_map (ext_section_bytes order) ts ++ more) hs.0 ht.0 (sym (append_assoc (ext_section_bytes order s) (flat_map (ext_section_bytes order) ss) rest) ∙ e ∙ append_assoc (ext_section_bytes order t) (flat_map (ext_section_bytes order) ts) more) in
     let others = same_cut order size ss ts rest more hs.1 ht.1 len first.rest in
     (ap (λ (x : Section). x ∷ ss) first.section_is ∙ ap (λ (xs : List Section). t ∷ xs) others.0, others.1)
 

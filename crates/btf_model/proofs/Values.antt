@@ -13,7 +13,7 @@ use Rattle.btf_model.specs.Table.{Table, Variant}
 use Rattle.btf_model.specs.Text.{text_at}
 use Rattle.btf_model.specs.Walk.{By, unmodified_in, Resolves}
 use Rattle.btf_model.specs.Ext.{Then}
-use Rattle.btf_model.specs.RelocationWords.{RelocationSection, HaveNames, Words}
+use Rattle.btf_model.specs.RelocationWords.{RelocationSection, SectionsHaveNames, Words}
 use Rattle.btf_model.specs.Value.{variants_by, HasVariants, HaveOtherNames, FindsVariant, Value}
 use Rattle.btf_model.proofs.Walks.{one_answer, by_one}
 
@@ -106,12 +106,12 @@ unread strings [] = None
 unread strings (s ∷ ss) = first_of_two (result_err (text_at strings s.0)) (unread strings ss)
 
 -- sections whose names can be read are skipped
-names_unread : (strings : List ℕ) (ss rest : List RelocationSection) → HaveNames strings ss → unread strings (ss ++ rest) ≡ unread strings rest
+names_unread : (strings : List ℕ) (ss rest : List RelocationSection) → SectionsHaveNames strings ss → unread strings (ss ++ rest) ≡ unread strings rest
 unfolding unread first_of_two
 names_unread strings [] rest names = refl
 names_unread strings (s ∷ ss) rest names = ap (λ (text : Result (List ℕ) Refusal). first_of_two (result_err text) (unread strings (ss ++ rest))) names.0.1 ∙ names_unread strings ss rest names.1
 
-none_unread : (strings : List ℕ) (ss : List RelocationSection) → HaveNames strings ss → unread strings ss ≡ None
+none_unread : (strings : List ℕ) (ss : List RelocationSection) → SectionsHaveNames strings ss → unread strings ss ≡ None
 unfolding unread
 none_unread strings ss names = ap (unread strings) (sym (append-nil ss)) ∙ names_unread strings ss [] names
 

@@ -22,8 +22,8 @@ pub record Section : Type 0 where
   pub bytes : List ℕ
 
 -- The bytes of a section: the word of its name, the word of its count, and its records.
-abbrev pub section_bytes : Endianness → Section → List ℕ
-section_bytes order s = word order s.name ++ word order s.count ++ s.bytes
+abbrev pub ext_section_bytes : Endianness → Section → List ℕ
+ext_section_bytes order s = word order s.name ++ word order s.count ++ s.bytes
 
 -- A section of records of this size: it has at least one record, each record has at least one byte, and its bytes are
 -- exactly the records.
@@ -37,7 +37,7 @@ pub record IsSection (size : ℕ) (s : Section) : Type 0 where
 -- The bytes are these sections, one after another, and then a rest.
 abbrev pub BeginsWith : Endianness → ℕ → List ℕ → List Section → List ℕ → Type 0
 BeginsWith order size bytes sections rest =
-    AllByRecursion (IsSection size) sections × (bytes ≡ flat_map (section_bytes order) sections ++ rest)
+    AllByRecursion (IsSection size) sections × (bytes ≡ flat_map (ext_section_bytes order) sections ++ rest)
 
 -- The longest list of sections that the bytes begin with, and the rest after it.
 pub record Sections (order : Endianness) (size : ℕ) (bytes : List ℕ) (sections : List Section) (rest : List ℕ) : Type 0 where
@@ -47,7 +47,7 @@ pub record Sections (order : Endianness) (size : ℕ) (bytes : List ℕ) (sectio
 -- The bytes begin with no section.
 abbrev pub BeginsNoSection : Endianness → ℕ → List ℕ → Type 0
 BeginsNoSection order size bytes =
-    (s : Section) (more : List ℕ) → IsSection size s → bytes ≡ section_bytes order s ++ more → ⊥
+    (s : Section) (more : List ℕ) → IsSection size s → bytes ≡ ext_section_bytes order s ++ more → ⊥
 
 -- the largest number of bytes that is reported
 abbrev pub largest_len : ℕ
@@ -118,13 +118,13 @@ record_words order size width (suc count) bytes =
     words_at order width bytes ∷ record_words order size width count (drop size bytes)
 
 -- the number of bytes of an instruction
-abbrev pub instruction_len : ℕ
-instruction_len = 8
+abbrev pub instruction_size : ℕ
+instruction_size = 8
 
 -- a record whose first word, the place of its instruction, is counted in instructions instead of bytes
 abbrev pub in_instructions : List ℕ → List ℕ
 in_instructions [] = []
-in_instructions (offset ∷ words) = (offset / instruction_len) ∷ words
+in_instructions (offset ∷ words) = (offset / instruction_size) ∷ words
 
 -- The records of a section of a program: the count that the section gives, and the words of each record.
 pub record Records : Type 0 where
@@ -160,7 +160,7 @@ pub record Range : Type 0 where
   pub least : ℕ
 
 -- The header: the ranges of the function, line and relocation records.
-pub record Header : Type 0 where
+pub record HeaderOfExt : Type 0 where
   pub func : Range
   pub line : Range
   pub core : Range
@@ -170,8 +170,8 @@ abbrev pub full_header : ℕ
 full_header = 32
 
 -- The 32 bytes of the header: as many bytes as its length gives, and zeros after them.
-abbrev pub header_bytes : Endianness → List ℕ → List ℕ
-header_bytes order bytes = let given = take (min (word_at order 4 bytes) full_header) bytes in given
+abbrev pub ext_header_bytes : Endianness → List ℕ → List ℕ
+ext_header_bytes order bytes = let given = take (min (word_at order 4 bytes) full_header) bytes in given
     ++ replicate (full_header - length given) 0
 
 -- a range by two words of the header: its offset, which counts from the end of the header, and its length
@@ -184,7 +184,7 @@ range_at order at least bytes = record {
 
 -- The ranges by the words of the header. A function record has at least two words, a line record and a relocation
 -- record at least four.
-abbrev pub header_words : Endianness → List ℕ → Header
+abbrev pub header_words : Endianness → List ℕ → HeaderOfExt
 header_words order bytes = record {
   func = range_at order 8 8 bytes;
   line = range_at order 16 16 bytes;
@@ -192,9 +192,9 @@ header_words order bytes = record {
 }
 
 -- The header is complete up to its length, which is its second word; or it is truncated.
-abbrev pub HasHeader : Endianness → List ℕ → Result Header Refusal → Type 0
+abbrev pub HasHeader : Endianness → List ℕ → Result HeaderOfExt Refusal → Type 0
 HasHeader order bytes (Ok h) =
-    (8 ≤ length bytes) × (word_at order 4 bytes ≤ length bytes) × (h ≡ header_words order (header_bytes order bytes))
+    (8 ≤ length bytes) × (word_at order 4 bytes ≤ length bytes) × (h ≡ header_words order (ext_header_bytes order bytes))
 HasHeader order bytes (Err refusal) =
     ((length bytes < 8) ⊎ (length bytes < word_at order 4 bytes)) × (refusal ≡ InvalidHeader)
 

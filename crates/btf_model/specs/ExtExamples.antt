@@ -2,12 +2,12 @@
 use Rattle.std.specs.Prelude.{◌≡◌, [], ◌∷◌, Some, None, option_map, refl}
 use Rattle.btf_model.specs.declared.endianness.Endianness.TheVariants.{Little, Big}
 use Rattle.btf_model.specs.Refusal.{InvalidInfo}
-use Rattle.btf_model.specs.Ext.{Section, section_bytes, cut_refusal, record_words, in_instructions, section_named, header_bytes, header_words, part_of}
+use Rattle.btf_model.specs.Ext.{Section, ext_section_bytes, cut_refusal, record_words, in_instructions, section_named, ext_header_bytes, header_words, part_of}
 
 one_section : Section
 one_section = record { name = 7; count = 1; bytes = 1 ∷ 2 ∷ 3 ∷ 4 ∷ 5 ∷ 6 ∷ 7 ∷ 8 ∷ [] }
 
-section_in_big_order : section_bytes Big one_section ≡ 0 ∷ 0 ∷ 0 ∷ 7 ∷ 0 ∷ 0 ∷ 0 ∷ 1 ∷ 1 ∷ 2 ∷ 3 ∷ 4 ∷ 5 ∷ 6 ∷ 7 ∷ 8 ∷ []
+section_in_big_order : ext_section_bytes Big one_section ≡ 0 ∷ 0 ∷ 0 ∷ 7 ∷ 0 ∷ 0 ∷ 0 ∷ 1 ∷ 1 ∷ 2 ∷ 3 ∷ 4 ∷ 5 ∷ 6 ∷ 7 ∷ 8 ∷ []
 unfolding one_section
 section_in_big_order = refl
 
@@ -37,12 +37,12 @@ none_of_a_name : option_map (λ s. s.name) (section_named (record { text = 97 �
 none_of_a_name = refl
 
 -- a header of 12 bytes: the words after them are zeros
-short_header : header_words Little (header_bytes Little (159 ∷ 235 ∷ 1 ∷ 0 ∷ 12 ∷ 0 ∷ 0 ∷ 0 ∷ 5 ∷ 0 ∷ 0 ∷ 0 ∷ 77 ∷ 0 ∷ 0 ∷ 0 ∷ []))
+short_header : header_words Little (ext_header_bytes Little (159 ∷ 235 ∷ 1 ∷ 0 ∷ 12 ∷ 0 ∷ 0 ∷ 0 ∷ 5 ∷ 0 ∷ 0 ∷ 0 ∷ 77 ∷ 0 ∷ 0 ∷ 0 ∷ []))
     ≡ record { func = record { start = 17; len = 0; least = 8 }; line = record { start = 12; len = 0; least = 16 }; core = record { start = 12; len = 0; least = 16 } }
 short_header = refl
 
 -- a header whose length is 0: all its words are zeros
-no_header : header_bytes Big (235 ∷ 159 ∷ 1 ∷ 0 ∷ 0 ∷ 0 ∷ 0 ∷ 0 ∷ []) ≡ 0 ∷ 0 ∷ 0 ∷ 0 ∷ 0 ∷ 0 ∷ 0 ∷ 0 ∷ 0 ∷ 0 ∷ 0 ∷ 0 ∷ 0 ∷ 0 ∷ 0 ∷ 0 ∷ 0 ∷ 0 ∷ 0 ∷ 0 ∷ 0 ∷ 0 ∷ 0 ∷ 0 ∷ 0 ∷ 0 ∷ 0 ∷ 0 ∷ 0 ∷ 0 ∷ 0 ∷ 0 ∷ []
+no_header : ext_header_bytes Big (235 ∷ 159 ∷ 1 ∷ 0 ∷ 0 ∷ 0 ∷ 0 ∷ 0 ∷ []) ≡ 0 ∷ 0 ∷ 0 ∷ 0 ∷ 0 ∷ 0 ∷ 0 ∷ 0 ∷ 0 ∷ 0 ∷ 0 ∷ 0 ∷ 0 ∷ 0 ∷ 0 ∷ 0 ∷ 0 ∷ 0 ∷ 0 ∷ 0 ∷ 0 ∷ 0 ∷ 0 ∷ 0 ∷ 0 ∷ 0 ∷ 0 ∷ 0 ∷ 0 ∷ 0 ∷ 0 ∷ 0 ∷ []
 no_header = refl
 
 -- a range of six bytes: the record size 8, and two bytes of sections

@@ -133,14 +133,14 @@ pub record ComparisonsHaveAnswers : Type 0 where
   pub kinds : (t : Table) → IsValid t → HaveKinds t
 
 -- both ids of a pair have a record
-abbrev pub AreIds : Table → Table → Pair → Type 0
-AreIds local target p = (p.local < length local.records) × (p.target < length target.records)
+abbrev pub AreIdsOfPair : Table → Table → Pair → Type 0
+AreIdsOfPair local target p = (p.local < length local.records) × (p.target < length target.records)
 
 -- A comparison starts pairs of known ids only. Without repeats each pair is in the list once, so the number of pairs is
 -- at most the number of local records times the number of target records.
 pub record StartsAreFew : Type 0 where
   pub known : (local target : Table) (above : List Pair) (p : Pair) (answer : Result Bool Refusal) (starts : List Pair)
-      → Plain local target above p answer starts → All (AreIds local target) starts
+      → Plain local target above p answer starts → All (AreIdsOfPair local target) starts
   pub once : (starts : List Pair) → IsDistinct pair_eq (firsts starts)
   pub few : (local target : Table) (above : List Pair) (p : Pair) (answer : Result Bool Refusal) (starts : List Pair)
       → Plain local target above p answer starts

@@ -12,22 +12,22 @@ abbrev pub RelocationSection : Type 0
 RelocationSection = ℕ × List (List ℕ)
 
 -- The names of these sections can be read.
-abbrev pub HaveNames : List ℕ → List RelocationSection → Type 0
-HaveNames strings sections = AllByRecursion (λ s. (text : List ℕ) × (text_at strings s.0 ≡ Ok text)) sections
+abbrev pub SectionsHaveNames : List ℕ → List RelocationSection → Type 0
+SectionsHaveNames strings sections = AllByRecursion (λ s. (text : List ℕ) × (text_at strings s.0 ≡ Ok text)) sections
 
 -- a text that was read is this name
-abbrev pub is_name : List ℕ → Result (List ℕ) Refusal → Bool
-is_name name (Ok text) = bytes_eq name text
-is_name name (Err refusal) = false
+abbrev pub is_name_read : List ℕ → Result (List ℕ) Refusal → Bool
+is_name_read name (Ok text) = bytes_eq name text
+is_name_read name (Err refusal) = false
 
 -- the records of all sections of this name, one section after another
 abbrev pub words_named : List ℕ → List ℕ → List RelocationSection → List (List ℕ)
-words_named strings name sections = flat_map (λ s. s.1) (filter (λ s. is_name name (text_at strings s.0)) sections)
+words_named strings name sections = flat_map (λ s. s.1) (filter (λ s. is_name_read name (text_at strings s.0)) sections)
 
 -- The records of the sections with this name, if the names of all sections can be read; else why the first unreadable
 -- name cannot be read.
 abbrev pub Words : List ℕ → List RelocationSection → List ℕ → Result (List (List ℕ)) Refusal → Type 0
-Words strings sections name (Ok words) = HaveNames strings sections × (words ≡ words_named strings name sections)
+Words strings sections name (Ok words) = SectionsHaveNames strings sections × (words ≡ words_named strings name sections)
 Words strings sections name (Err refusal) =
     (before after : List RelocationSection) × (s : RelocationSection) × (sections ≡ before ++ s ∷ after)
-    × HaveNames strings before × (text_at strings s.0 ≡ Err refusal)
+    × SectionsHaveNames strings before × (text_at strings s.0 ≡ Err refusal)

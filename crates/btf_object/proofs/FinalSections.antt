@@ -11,7 +11,7 @@ use Rattle.btf_model.specs.Record as kinds
 use Rattle.btf_model.specs.Record.{Kind, Record, unknown, kind_of, vlen}
 use Rattle.btf_model.specs.Table.{Table}
 use Rattle.btf_model.specs.Text.{text_at}
-use Rattle.btf_rewrite_model.specs.Made.{Entry, entries, record_at, kind_at, data_sec}
+use Rattle.btf_rewrite_model.specs.Made.{Entry, entries, record_at, kind_at, made_data_sec}
 use Rattle.btf_rewrite_model.specs.Made as made
 use Rattle.btf_rewrite_model.specs.Pass.{Layout}
 use Rattle.btf_rewrite_model.proofs.Granted.{kind_made, vlen_small}
@@ -20,19 +20,19 @@ use Rattle.btf_rewrite_model.specs.declared.ksyms_ids.KsymsIds.{KsymsIds}
 use Rattle.btf_records.specs.BtfType.{record_of, type_kind}
 use Rattle.btf_records.specs.declared.btf_type.BtfType.{BtfType}
 use Rattle.btf_records.specs.declared.btf_type.BtfType.TheVariants.{DataSec as DataSecType}
-use Rattle.btf_plain.specs.Items.{entry_words}
+use Rattle.btf_plain.specs.Items.{code_entry_words}
 use Rattle.btf_plain.specs.declared.items.DataSecEntry.{DataSecEntry}
-use Rattle.btf_table.specs.KsymsStep.{entry}
+use Rattle.btf_table.specs.KsymsStep.{model_entry}
 use Rattle.btf_table.proofs.KsymsEntries.{at, zero_entry, entries_of_words}
-use Rattle.btf_object_model.specs.Finalized.{section_size, entry_offset, placed, AreInOrder, is_completed, final_size, IsFinal, has_functions, is_data_sec, with_ksyms_size}
+use Rattle.btf_object_model.specs.Finalized.{known_section_size, entry_offset, entry_at_offset, AreInOrder, is_completed, completed_size, IsFinal, has_functions, has_data_sec_kind, with_ksyms_size}
 use Rattle.btf_object.specs.Finalize.{completed_parts, final_parts, data_sec_size}
 
 -- the entries before a place, and the entry at it
-pub entries_up_to : (es : List DataSecEntry) (i : ℕ) → i < length es → map entry (take (i + 1) es) ≡ map entry (take i es) ++ entry (at es i) ∷ []
-entries_up_to es i lt = ap (map entry) (take_more es i zero_entry lt) ∙ map-append entry (take i es) (at es i ∷ [])
+pub entries_up_to : (es : List DataSecEntry) (i : ℕ) → i < length es → map model_entry (take (i + 1) es) ≡ map model_entry (take i es) ++ model_entry (at es i) ∷ []
+entries_up_to es i lt = ap (map model_entry) (take_more es i zero_entry lt) ∙ map-append model_entry (take i es) (at es i ∷ [])
 
 -- all entries
-pub all_entries : (tail : List ℕ) (es : List DataSecEntry) → tail ≡ flat_map entry_words es → entries tail ≡ map entry es
+pub all_entries : (tail : List ℕ) (es : List DataSecEntry) → tail ≡ flat_map code_entry_words es → entries tail ≡ map model_entry es
 all_entries tail es words = ap entries words ∙ entries_of_words es
 
 module _ (layout : Layout) (t : Table) where
@@ -42,71 +42,71 @@ module _ (layout : Layout) (t : Table) where
 
   -- The entries before a place have known offsets, and these are the entries at their offsets.
   pub record ArePlaced (es : List DataSecEntry) (i : ℕ) (made : List DataSecEntry) : Type 0 where
-    pub known : list_all (λ e. is_some (entry_offset layout t e)) (map entry (take i es)) ≡ true
-    pub placed_are : map entry made ≡ map (placed layout t) (map entry (take i es))
+    pub known : list_all (λ e. is_some (entry_offset layout t e)) (map model_entry (take i es)) ≡ true
+    pub placed_are : map model_entry made ≡ map (entry_at_offset layout t) (map model_entry (take i es))
     pub count : length made ≡ i
 
   pub none_placed : (es : List DataSecEntry) → ArePlaced es 0 []
   none_placed es = record { known = refl; placed_are = refl; count = refl }
 
-  pub one_placed : (es made new : List DataSecEntry) (i offset : ℕ) → i < length es → ArePlaced es i made → entry_offset layout t (entry (at es i)) ≡ Some offset
+  pub one_placed : (es made new : List DataSecEntry) (i offset : ℕ) → i < length es → ArePlaced es i made → entry_offset layout t (model_entry (at es i)) ≡ Some offset
       → new ≡ made ++ record { btf_type = (at es i).btf_type; offset = offset; size = (at es i).size } ∷ [] → ArePlaced es (i + 1) new
   one_placed es made new i offset lt p at_offset is =
       let x : DataSecEntry = record { btf_type = (at es i).btf_type; offset = offset; size = (at es i).size } in
-      let before : List Entry = map entry (take i es) in
-      let here : knows (entry (at es i)) ≡ true = ap (λ (o : Option ℕ). is_some o) at_offset in
-      let one : placed layout t (entry (at es i)) ≡ entry x = ap (λ (o : Option ℕ). record (entry (at es i)) { offset = unwrap_or o (at es i).offset }) at_offset in
+      let before : List Entry = map model_entry (take i es) in
+      let here : knows (model_entry (at es i)) ≡ true = ap (λ (o : Option ℕ). is_some o) at_offset in
+      let one : entry_at_offset layout t (model_entry (at es i)) ≡ model_entry x = ap (λ (o : Option ℕ). record (model_entry (at es i)) { offset = unwrap_or o (at es i).offset }) at_offset in
       record {
-        known = ap (list_all knows) (entries_up_to es i lt) ∙ list_all-append knows before (entry (at es i) ∷ [])
-            ∙ ap (λ (b : Bool). b && list_all knows (entry (at es i) ∷ [])) p.known ∙ ap (λ (b : Bool). b && true) here;
-        placed_are = ap (map entry) is ∙ map-append entry made (x ∷ []) ∙ ap (λ (xs : List Entry). xs ++ entry x ∷ []) p.placed_are
-            ∙ ap (λ (y : Entry). map (placed layout t) before ++ y ∷ []) (sym one)
-            ∙ sym (ap (map (placed layout t)) (entries_up_to es i lt) ∙ map-append (placed layout t) before (entry (at es i) ∷ []));
+        known = ap (list_all knows) (entries_up_to es i lt) ∙ list_all-append knows before (model_entry (at es i) ∷ [])
+            ∙ ap (λ (b : Bool). b && list_all knows (model_entry (at es i) ∷ [])) p.known ∙ ap (λ (b : Bool). b && true) here;
+        placed_are = ap (map model_entry) is ∙ map-append model_entry made (x ∷ []) ∙ ap (λ (xs : List Entry). xs ++ model_entry x ∷ []) p.placed_are
+            ∙ ap (λ (y : Entry). map (entry_at_offset layout t) before ++ y ∷ []) (sym one)
+            ∙ sym (ap (map (entry_at_offset layout t)) (entries_up_to es i lt) ∙ map-append (entry_at_offset layout t) before (model_entry (at es i) ∷ []));
         count = omega (arith, ap length is, length-append made (x ∷ []), p.count);
       }
 
   -- all entries have known offsets
-  pub all_placed : (tail : List ℕ) (es made : List DataSecEntry) (i : ℕ) → tail ≡ flat_map entry_words es → length es ≤ i → ArePlaced es i made
-      → Some (map entry made) ≡ (if list_all (λ e. is_some (entry_offset layout t e)) (entries tail) then Some (map (placed layout t) (entries tail)) else None)
+  pub all_placed : (tail : List ℕ) (es made : List DataSecEntry) (i : ℕ) → tail ≡ flat_map code_entry_words es → length es ≤ i → ArePlaced es i made
+      → Some (map model_entry made) ≡ (if list_all (λ e. is_some (entry_offset layout t e)) (entries tail) then Some (map (entry_at_offset layout t) (entries tail)) else None)
   all_placed tail es made i words end p =
-      let all : map entry (take i es) ≡ entries tail = ap (map entry) (take_all i es end) ∙ sym (all_entries tail es words) in
+      let all : map model_entry (take i es) ≡ entries tail = ap (map model_entry) (take_all i es end) ∙ sym (all_entries tail es words) in
       let known : list_all knows (entries tail) ≡ true = ap (list_all knows) (sym all) ∙ p.known in
-      ap (λ (xs : List Entry). Some xs) (p.placed_are ∙ ap (map (placed layout t)) all)
-      ∙ sym (ap (λ (b : Bool). if b then Some (map (placed layout t) (entries tail)) else None) known)
+      ap (λ (xs : List Entry). Some xs) (p.placed_are ∙ ap (map (entry_at_offset layout t)) all)
+      ∙ sym (ap (λ (b : Bool). if b then Some (map (entry_at_offset layout t) (entries tail)) else None) known)
 
   -- the offset of one entry is not known
-  pub not_placed : (tail : List ℕ) (es : List DataSecEntry) (i : ℕ) → tail ≡ flat_map entry_words es → i < length es → entry_offset layout t (entry (at es i)) ≡ None
-      → None ≡ (if list_all (λ e. is_some (entry_offset layout t e)) (entries tail) then Some (map (placed layout t) (entries tail)) else None)
+  pub not_placed : (tail : List ℕ) (es : List DataSecEntry) (i : ℕ) → tail ≡ flat_map code_entry_words es → i < length es → entry_offset layout t (model_entry (at es i)) ≡ None
+      → None ≡ (if list_all (λ e. is_some (entry_offset layout t e)) (entries tail) then Some (map (entry_at_offset layout t) (entries tail)) else None)
   not_placed tail es i words lt none =
-      let unknown_one : knows (entry (at es i)) ≡ false = ap (λ (o : Option ℕ). is_some o) none in
+      let unknown_one : knows (model_entry (at es i)) ≡ false = ap (λ (o : Option ℕ). is_some o) none in
       let not_all : list_all knows (entries tail) ≡ false =
-      ap (list_all knows) (all_entries tail es words) ∙ list_all-map knows entry es ∙ list_all_at (λ e. knows (entry e)) es i zero_entry lt unknown_one in
-      sym (ap (λ (b : Bool). if b then Some (map (placed layout t) (entries tail)) else None) not_all)
+      ap (list_all knows) (all_entries tail es words) ∙ list_all-map knows model_entry es ∙ list_all_at (λ e. knows (model_entry e)) es i zero_entry lt unknown_one in
+      sym (ap (λ (b : Bool). if b then Some (map (entry_at_offset layout t) (entries tail)) else None) not_all)
 
   -- ---- the size and the entries
 
   abbrev texted : Record → Option ℕ
-  texted r = section_size layout (text_at t.strings r.name)
+  texted r = known_section_size layout (text_at t.strings r.name)
 
   abbrev all_known : Record → Bool
   all_known r = list_all knows (entries r.tail)
 
   -- a DATASEC that has a size is not completed
   pub has_size : (r : Record) → (r.third == 0) ≡ false → completed_parts layout t r ≡ None
-  has_size r is = ap (λ (b : Bool). if b && is_some (texted r) && all_known r then Some (unwrap_or (texted r) 0, map (placed layout t) (entries r.tail)) else None) is
+  has_size r is = ap (λ (b : Bool). if b && is_some (texted r) && all_known r then Some (unwrap_or (texted r) 0, map (entry_at_offset layout t) (entries r.tail)) else None) is
 
   -- nor is one whose section is not known
   pub no_section : (r : Record) → (r.third == 0) ≡ true → texted r ≡ None → completed_parts layout t r ≡ None
   no_section r zero none =
-      ap (λ (b : Bool). if b && is_some (texted r) && all_known r then Some (unwrap_or (texted r) 0, map (placed layout t) (entries r.tail)) else None) zero
-      ∙ ap (λ (o : Option ℕ). if is_some o && all_known r then Some (unwrap_or o 0, map (placed layout t) (entries r.tail)) else None) none
+      ap (λ (b : Bool). if b && is_some (texted r) && all_known r then Some (unwrap_or (texted r) 0, map (entry_at_offset layout t) (entries r.tail)) else None) zero
+      ∙ ap (λ (o : Option ℕ). if is_some o && all_known r then Some (unwrap_or o 0, map (entry_at_offset layout t) (entries r.tail)) else None) none
 
   -- if the size of the section is known, the entries decide
-  pub by_entries : (r : Record) (size : ℕ) (es : Option (List Entry)) → (r.third == 0) ≡ true → texted r ≡ Some size → es ≡ (if list_all (λ e. is_some (entry_offset layout t e)) (entries r.tail) then Some (map (placed layout t) (entries r.tail)) else None)
+  pub by_entries : (r : Record) (size : ℕ) (es : Option (List Entry)) → (r.third == 0) ≡ true → texted r ≡ Some size → es ≡ (if list_all (λ e. is_some (entry_offset layout t e)) (entries r.tail) then Some (map (entry_at_offset layout t) (entries r.tail)) else None)
       → completed_parts layout t r ≡ option_map (λ (xs : List Entry). (size, xs)) es
   by_entries r size es zero some is =
       let both : List Entry → ℕ × List Entry = λ xs. (size, xs) in
-      let made : List Entry = map (placed layout t) (entries r.tail) in
+      let made : List Entry = map (entry_at_offset layout t) (entries r.tail) in
       let Parts : Option ℕ → ℕ × List Entry = λ o. (unwrap_or o 0, made) in
       let decided : (b : Bool) → (if b then Some (both made) else None) ≡ option_map both (if b then Some made else None) =
       λ b. elim b as (λ (b : Bool). (if b then Some (both made) else None) ≡ option_map both (if b then Some made else None)) [ true ↦ refl | false ↦ refl ] in
@@ -117,24 +117,24 @@ module _ (layout : Layout) (t : Table) where
   -- completed
   pub completed_is : (r : Record) (parts : ℕ × List Entry) → completed_parts layout t r ≡ Some parts → final_parts layout t r ≡ parts
   completed_is r parts is =
-      let made : ℕ × List Entry = (unwrap_or (texted r) 0, map (placed layout t) (entries r.tail)) in
+      let made : ℕ × List Entry = (unwrap_or (texted r) 0, map (entry_at_offset layout t) (entries r.tail)) in
       elim (is_completed layout t r) as (λ (b : Bool). (if b then Some made else None) ≡ Some parts → ◌≡◌ {A = ℕ × List Entry} (if b then made.0 else r.third, if b then made.1 else entries r.tail) parts)
       [ true ↦ λ some. same_Some made parts some | false ↦ λ none. absurd (none-some parts none) ] is
 
   -- not completed
   pub uncompleted_is : (r : Record) → completed_parts layout t r ≡ None → final_parts layout t r ≡ (r.third, entries r.tail)
   uncompleted_is r is =
-      let made : ℕ × List Entry = (unwrap_or (texted r) 0, map (placed layout t) (entries r.tail)) in
+      let made : ℕ × List Entry = (unwrap_or (texted r) 0, map (entry_at_offset layout t) (entries r.tail)) in
       let own : ℕ × List Entry = (r.third, entries r.tail) in
       elim (is_completed layout t r) as (λ (b : Bool). (if b then Some made else None) ≡ None → ◌≡◌ {A = ℕ × List Entry} (if b then made.0 else r.third, if b then made.1 else entries r.tail) own)
       [ true ↦ λ some. absurd (none-some made (sym some)) | false ↦ λ none. refl ] is
 
 -- the own size and entries of a DATASEC that is not completed
-pub own_parts : (layout : Layout) (t : Table) (r : Record) (size : ℕ) (es copies : List DataSecEntry) → completed_parts layout t r ≡ None → size ≡ r.third → r.tail ≡ flat_map entry_words es → copies ≡ es
-    → ◌≡◌ {A = ℕ × List Entry} (size, map entry copies) (final_parts layout t r)
+pub own_parts : (layout : Layout) (t : Table) (r : Record) (size : ℕ) (es copies : List DataSecEntry) → completed_parts layout t r ≡ None → size ≡ r.third → r.tail ≡ flat_map code_entry_words es → copies ≡ es
+    → ◌≡◌ {A = ℕ × List Entry} (size, map model_entry copies) (final_parts layout t r)
 own_parts layout t r size es copies none size_is words copies_are =
     let Own : ℕ → List Entry → ℕ × List Entry = λ n xs. (n, xs) in
-    ap (λ (n : ℕ). Own n (map entry copies)) size_is ∙ ap (λ (xs : List DataSecEntry). Own r.third (map entry xs)) copies_are
+    ap (λ (n : ℕ). Own n (map model_entry copies)) size_is ∙ ap (λ (xs : List DataSecEntry). Own r.third (map model_entry xs)) copies_are
     ∙ ap (Own r.third) (sym (all_entries r.tail es words)) ∙ sym (uncompleted_is layout t r none)
 
 -- a value that is not there
@@ -143,9 +143,9 @@ none_there None not = refl
 none_there (Some x) not = absurd (not x refl)
 
 -- the length of the words
-pub entries_len : (es : List DataSecEntry) → length (flat_map entry_words es) ≡ 3 * length es
+pub entries_len : (es : List DataSecEntry) → length (flat_map code_entry_words es) ≡ 3 * length es
 entries_len [] = refl
-entries_len (e ∷ es) = let rest : length (flat_map entry_words es) ≡ 3 * length es = entries_len es in omega (arith, rest, length-append (entry_words e) (flat_map entry_words es))
+entries_len (e ∷ es) = let rest : length (flat_map code_entry_words es) ≡ 3 * length es = entries_len es in omega (arith, rest, length-append (code_entry_words e) (flat_map code_entry_words es))
 
 -- ---- sorted entries
 
@@ -157,38 +157,38 @@ filter-map {X} p f (x ∷ xs) =
       | false ↦ filter-map p f xs
     ]
 
-pub entry_words_same : (es : List DataSecEntry) → flat_map entry_words es ≡ flat_map made.entry_words (map entry es)
+pub entry_words_same : (es : List DataSecEntry) → flat_map code_entry_words es ≡ flat_map made.entry_words (map model_entry es)
 entry_words_same [] = refl
-entry_words_same (e ∷ es) = ap (λ (ws : List ℕ). entry_words e ++ ws) (entry_words_same es)
+entry_words_same (e ∷ es) = ap (λ (ws : List ℕ). code_entry_words e ++ ws) (entry_words_same es)
 
-in_order : (es sorted : List DataSecEntry) → IsSortedByKey (λ (e : DataSecEntry). e.offset) nat_cmp sorted → IsStableByKey (λ (e : DataSecEntry). e.offset) nat_cmp es sorted → AreInOrder (map entry es) (map entry sorted)
+in_order : (es sorted : List DataSecEntry) → IsSortedByKey (λ (e : DataSecEntry). e.offset) nat_cmp sorted → IsStableByKey (λ (e : DataSecEntry). e.offset) nat_cmp es sorted → AreInOrder (map model_entry es) (map model_entry sorted)
 in_order es sorted rising stable =
-    let len : length (map entry sorted) ≡ length sorted = length-map sorted entry in
+    let len : length (map model_entry sorted) ≡ length sorted = length-map sorted model_entry in
     record {
       rising = λ k d low high.
           let there : k + 1 < length sorted = omega (arith, high, len) in
-          let next : get_or (map entry sorted) (k + 1) d ≡ entry (get_or sorted (k + 1) zero_entry) = get_or-map entry sorted (k + 1) zero_entry d there in
-          let this : get_or (map entry sorted) k d ≡ entry (get_or sorted k zero_entry) = get_or-map entry sorted k zero_entry d (omega (arith, there)) in
+          let next : get_or (map model_entry sorted) (k + 1) d ≡ model_entry (get_or sorted (k + 1) zero_entry) = get_or-map model_entry sorted (k + 1) zero_entry d there in
+          let this : get_or (map model_entry sorted) k d ≡ model_entry (get_or sorted k zero_entry) = get_or-map model_entry sorted k zero_entry d (omega (arith, there)) in
           (λ i. is_lt (nat_cmp (next i).offset (this i).offset)) ∙ rising k zero_entry low there;
       stable = λ x.
           let p : Entry → Bool = ties (λ (a b : Entry). is_lt (nat_cmp a.offset b.offset)) x in
           let here : DataSecEntry = record { btf_type = x.type; offset = x.offset; size = x.size } in
-          filter-map p entry sorted ∙ ap (map entry) (stable here) ∙ sym (filter-map p entry es);
+          filter-map p model_entry sorted ∙ ap (map model_entry) (stable here) ∙ sym (filter-map p model_entry es);
     }
 
 -- the DATASEC of sorted entries is the final one
-pub final_is : (layout : Layout) (t : Table) (r new : Record) (size count : ℕ) (es sorted : List DataSecEntry) → (size, map entry es) ≡ final_parts layout t r → count ≡ vlen r.info → IsSortedByKey (λ (e : DataSecEntry). e.offset) nat_cmp sorted
-    → IsStableByKey (λ (e : DataSecEntry). e.offset) nat_cmp es sorted → new ≡ record { name = r.name; info = 15 * 2 ^ 24 + count; third = size; tail = flat_map entry_words sorted }
+pub final_is : (layout : Layout) (t : Table) (r new : Record) (size count : ℕ) (es sorted : List DataSecEntry) → (size, map model_entry es) ≡ final_parts layout t r → count ≡ vlen r.info → IsSortedByKey (λ (e : DataSecEntry). e.offset) nat_cmp sorted
+    → IsStableByKey (λ (e : DataSecEntry). e.offset) nat_cmp es sorted → new ≡ record { name = r.name; info = 15 * 2 ^ 24 + count; third = size; tail = flat_map code_entry_words sorted }
     → IsFinal layout t (Some kinds.DataSec) r new × (kind_of new.info ≡ Some kinds.DataSec)
 final_is layout t r new size count es sorted parts count_is rising stable is =
-    let words : flat_map entry_words sorted ≡ flat_map made.entry_words (map entry sorted) = entry_words_same sorted in
-    let made_is : new ≡ data_sec r.name (final_size layout t r) (vlen r.info) (map entry sorted) =
-    is ∙ ap (λ (n : ℕ). record { name = r.name; info = 15 * 2 ^ 24 + n; third = size; tail = flat_map entry_words sorted }) count_is
-    ∙ ap (λ (n : ℕ). record { name = r.name; info = 15 * 2 ^ 24 + vlen r.info; third = n; tail = flat_map entry_words sorted }) (ap (λ (p : ℕ × List Entry). p.0) parts)
-    ∙ ap (λ (ws : List ℕ). record { name = r.name; info = 15 * 2 ^ 24 + vlen r.info; third = final_size layout t r; tail = ws }) words in (
+    let words : flat_map code_entry_words sorted ≡ flat_map made.entry_words (map model_entry sorted) = entry_words_same sorted in
+    let made_is : new ≡ made_data_sec r.name (completed_size layout t r) (vlen r.info) (map model_entry sorted) =
+    is ∙ ap (λ (n : ℕ). record { name = r.name; info = 15 * 2 ^ 24 + n; third = size; tail = flat_map code_entry_words sorted }) count_is
+    ∙ ap (λ (n : ℕ). record { name = r.name; info = 15 * 2 ^ 24 + vlen r.info; third = n; tail = flat_map code_entry_words sorted }) (ap (λ (p : ℕ × List Entry). p.0) parts)
+    ∙ ap (λ (ws : List ℕ). record { name = r.name; info = 15 * 2 ^ 24 + vlen r.info; third = completed_size layout t r; tail = ws }) words in (
       (
-        map entry sorted,
-        subst (λ (xs : List Entry). AreInOrder xs (map entry sorted)) (ap (λ (p : ℕ × List Entry). p.1) parts) (in_order es sorted rising stable),
+        map model_entry sorted,
+        subst (λ (xs : List Entry). AreInOrder xs (map model_entry sorted)) (ap (λ (p : ℕ × List Entry). p.1) parts) (in_order es sorted rising stable),
         made_is,
       ),
       ap (λ (x : Record). kind_of x.info) made_is ∙ kind_made 15 (vlen r.info) kinds.DataSec (omega arith) (vlen_small r.info) refl,
@@ -201,23 +201,23 @@ list_any-map p f [] = refl
 list_any-map p f (x ∷ xs) = ap (λ (b : Bool). p (f x) || b) (list_any-map p f xs)
 
 -- a function is among the entries of the DATASEC
-pub functions_are : (t : Table) (ids : KsymsIds) (b : BtfType) (r : Record) (es : List DataSecEntry) → b ≡ DataSecType r → slice_get t.records ids.datasec_id ≡ Some (record_of b) → r.tail ≡ flat_map entry_words es
+pub functions_are : (t : Table) (ids : KsymsIds) (b : BtfType) (r : Record) (es : List DataSecEntry) → b ≡ DataSecType r → slice_get t.records ids.datasec_id ≡ Some (record_of b) → r.tail ≡ flat_map code_entry_words es
     → list_any (λ (e : DataSecEntry). is_func (kind_at t e.btf_type)) es ≡ has_functions t (Some ids)
 functions_are t ids b r es is here words =
     let record_is : record_at t ids.datasec_id ≡ r = ap (λ (o : Option Record). unwrap_or o unknown) here ∙ ap record_of is in
-    list_any-map (λ (e : Entry). is_func (kind_at t e.type)) entry es
+    list_any-map (λ (e : Entry). is_func (kind_at t e.type)) model_entry es
     ∙ ap (list_any (λ (e : Entry). is_func (kind_at t e.type))) (sym (ap (λ (x : Record). entries x.tail) record_is ∙ all_entries r.tail es words))
 
 -- the recorded size of `.ksyms`
 pub ksyms_sizes : (t : Table) (ids : KsymsIds) (b : BtfType) (r : Record) (es : List DataSecEntry) (sizes : List (Option ℕ)) → b ≡ DataSecType r → slice_get t.records ids.datasec_id ≡ Some (record_of b) → kind_of (record_of b).info ≡ Some (type_kind b)
-    → r.tail ≡ flat_map entry_words es → sizes ≡ map data_sec_size t.records → set sizes ids.datasec_id (Some (4 * length es)) ≡ map data_sec_size (with_ksyms_size t (Some ids)).records
+    → r.tail ≡ flat_map code_entry_words es → sizes ≡ map data_sec_size t.records → set sizes ids.datasec_id (Some (4 * length es)) ≡ map data_sec_size (with_ksyms_size t (Some ids)).records
 ksyms_sizes t ids b r es sizes is here kind words are =
     let id : ℕ = ids.datasec_id in
     let record_is : record_at t id ≡ record_of b = ap (λ (o : Option Record). unwrap_or o unknown) here in
     let kind_is : kind_of (record_at t id).info ≡ Some kinds.DataSec = ap (λ (x : Record). kind_of x.info) record_is ∙ kind ∙ ap (λ (x : BtfType). Some (type_kind x)) is in
     let new : Record = record (record_at t id) { third = 4 * length (entries (record_at t id).tail) } in
-    let entries_are : entries (record_at t id).tail ≡ map entry es = ap (λ (x : Record). entries x.tail) (record_is ∙ ap record_of is) ∙ all_entries r.tail es words in
-    let count : length (entries (record_at t id).tail) ≡ length es = ap (λ (xs : List Entry). length xs) entries_are ∙ length-map es entry in
+    let entries_are : entries (record_at t id).tail ≡ map model_entry es = ap (λ (x : Record). entries x.tail) (record_is ∙ ap record_of is) ∙ all_entries r.tail es words in
+    let count : length (entries (record_at t id).tail) ≡ length es = ap (λ (xs : List Entry). length xs) entries_are ∙ length-map es model_entry in
     let size_is : data_sec_size new ≡ Some (4 * length es) =
-    ap (λ (k : Option Kind). if is_data_sec k then Some (4 * length (entries (record_at t id).tail)) else None) kind_is ∙ ap (λ (n : ℕ). Some (4 * n)) count in
+    ap (λ (k : Option Kind). if has_data_sec_kind k then Some (4 * length (entries (record_at t id).tail)) else None) kind_is ∙ ap (λ (n : ℕ). Some (4 * n)) count in
     ap (λ (ss : List (Option ℕ)). set ss id (Some (4 * length es))) are ∙ ap (set (map data_sec_size t.records) id) (sym size_is) ∙ sym (map-set data_sec_size t.records id new)

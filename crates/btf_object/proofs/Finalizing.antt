@@ -11,14 +11,14 @@ use Rattle.btf_model.specs.Record as kinds
 use Rattle.btf_model.specs.Record.{Kind, Record, unknown, kind_of, vlen}
 use Rattle.btf_model.specs.Table.{Table, Fallback}
 use Rattle.btf_model.specs.Text.{text_at}
-use Rattle.btf_rewrite_model.specs.Made.{Entry, entries, record_at, kind_at, struct, data_sec, table_ids}
+use Rattle.btf_rewrite_model.specs.Made.{Entry, entries, record_at, kind_at, struct, made_data_sec, table_ids}
 use Rattle.btf_rewrite_model.specs.Pass.{Layout}
 use Rattle.btf_records.specs.BtfType.{record_of, fallback_of, type_kind}
 use Rattle.btf_records.specs.declared.btf_type.BtfType.{BtfType}
 use Rattle.btf_table.specs.Btf.{IsType}
 use Rattle.btf_records.specs.declared.btf_type.BtfType.TheVariants as BtfTypes
-use Rattle.btf_object_model.specs.Finalized.{section_size, retains_offset, variable_offset, offset_by, entry_offset, AreInOrder, IsFinal, IsFinalized, is_data_sec, is_struct, sized_record, sized}
-use Rattle.btf_object.specs.Finalize.{FinalizesAt, ResizesAt, data_sec_size, resized}
+use Rattle.btf_object_model.specs.Finalized.{known_section_size, retains_offset, variable_offset, offset_by, entry_offset, AreInOrder, IsFinal, IsFinalized, has_data_sec_kind, is_struct, sized_record, with_old_sizes}
+use Rattle.btf_object.specs.Finalize.{FinalizesAt, ResizesAt, data_sec_size, resized_record}
 
 -- ---- one record is replaced
 
@@ -54,9 +54,9 @@ replaces old new id r fallback lt at is =
 -- ---- finalizing
 
 -- only DATASECs change
-pub stays_final : (layout : Layout) (t : Table) (k : Option Kind) (r : Record) → is_data_sec k ≡ false → IsFinal layout t k r r
+pub stays_final : (layout : Layout) (t : Table) (k : Option Kind) (r : Record) → has_data_sec_kind k ≡ false → IsFinal layout t k r r
 stays_final layout t k r other =
-    elim k as (λ (k : Option Kind). is_data_sec k ≡ false → IsFinal layout t k r r) [ Some kinds.DataSec ↦ λ is. cc | _ ↦ λ is. refl ] other
+    elim k as (λ (k : Option Kind). has_data_sec_kind k ≡ false → IsFinal layout t k r r) [ Some kinds.DataSec ↦ λ is. cc | _ ↦ λ is. refl ] other
 
 -- of a table, only the strings are read
 offset_read : (layout : Layout) (t u : Table) (k : Option Kind) (r : Record) (old : ℕ) → u.strings ≡ t.strings → offset_by layout u k r old ≡ offset_by layout t k r old
@@ -78,11 +78,11 @@ offset_same layout t u k r new old strings is =
 -- a record becomes the same in two tables whose variables have the same offsets
 final_same : (layout : Layout) (t u : Table) (k : Option Kind) (r new : Record) → t.strings ≡ u.strings → ((e : Entry) → entry_offset layout t e ≡ entry_offset layout u e) → IsFinal layout t k r new → IsFinal layout u k r new
 final_same layout t u k r new strings offsets is =
-    let Completed : List ℕ → (Entry → Option ℕ) → Bool = λ texts at. (r.third == 0) && is_some (section_size layout (text_at texts r.name)) && list_all (λ e. is_some (at e)) (entries r.tail) in
+    let Completed : List ℕ → (Entry → Option ℕ) → Bool = λ texts at. (r.third == 0) && is_some (known_section_size layout (text_at texts r.name)) && list_all (λ e. is_some (at e)) (entries r.tail) in
     let Made : List ℕ → (Entry → Option ℕ) → Type 0 = λ texts at.
     (es : List Entry)
     × AreInOrder (if Completed texts at then map (λ (e : Entry). record e { offset = unwrap_or (at e) e.offset }) (entries r.tail) else entries r.tail) es
-    × (new ≡ data_sec r.name (if Completed texts at then unwrap_or (section_size layout (text_at texts r.name)) 0 else r.third) (vlen r.info) es) in
+    × (new ≡ made_data_sec r.name (if Completed texts at then unwrap_or (known_section_size layout (text_at texts r.name)) 0 else r.third) (vlen r.info) es) in
     elim k as (λ (k : Option Kind). IsFinal layout t k r new → IsFinal layout u k r new) [
       | Some kinds.DataSec ↦ λ (made : Made t.strings (λ e. entry_offset layout t e)).
           subst (λ (texts : List ℕ). Made texts (λ e. entry_offset layout u e)) strings
@@ -148,18 +148,18 @@ size_at rs id =
     ∙ elim (slice_get rs id) as (λ (o : Option Record). unwrap_or (option_map data_sec_size o) None ≡ data_sec_size (unwrap_or o unknown)) [ Some r ↦ refl | None ↦ refl ]
 
 -- a STRUCT gets the size that the DATASEC had
-sized_is : (old new : Record) (size : ℕ) → data_sec_size old ≡ Some size → sized_record old new ≡ resized size new
+sized_is : (old new : Record) (size : ℕ) → data_sec_size old ≡ Some size → sized_record old new ≡ resized_record size new
 sized_is old new size is =
     let s : Bool = is_struct (kind_of new.info) in
     let Made : ℕ → Record = λ n. if s then struct new.name n (vlen new.info) new.tail else new in
-    elim (is_data_sec (kind_of old.info)) as (λ (d : Bool). (if d then Some old.third else None) ≡ Some size → (if d && s then struct new.name old.third (vlen new.info) new.tail else new) ≡ Made size)
+    elim (has_data_sec_kind (kind_of old.info)) as (λ (d : Bool). (if d then Some old.third else None) ≡ Some size → (if d && s then struct new.name old.third (vlen new.info) new.tail else new) ≡ Made size)
     [ true ↦ λ some. ap Made (same_Some old.third size some) | false ↦ λ none. absurd (none-some size none) ] is
 
 -- other records stay
 unsized_is : (old new : Record) → data_sec_size old ≡ None → sized_record old new ≡ new
 unsized_is old new is =
     let s : Bool = is_struct (kind_of new.info) in
-    elim (is_data_sec (kind_of old.info)) as (λ (d : Bool). (if d then Some old.third else None) ≡ None → (if d && s then struct new.name old.third (vlen new.info) new.tail else new) ≡ new)
+    elim (has_data_sec_kind (kind_of old.info)) as (λ (d : Bool). (if d then Some old.third else None) ≡ None → (if d && s then struct new.name old.third (vlen new.info) new.tail else new) ≡ new)
     [ true ↦ λ some. absurd (none-some old.third (sym some)) | false ↦ λ none. refl ] is
 
 -- The STRUCTs below this id have their sizes, and the others do not yet.
@@ -200,12 +200,12 @@ id_sized base old now new sizes id size are some f p =
           (λ (below : k < id). f.elsewhere k (λ is. omega (arith, is, below)) ∙ p.done k below)
           (λ (from : id ≤ k). let is : id ≡ k = omega (arith, from, lt) in
           subst (λ (j : ℕ). record_at new j ≡ sized_record (record_at base j) (record_at old j)) is
-          (f.here ∙ ap (resized size) (p.rest id (omega arith)) ∙ sym (sized_is (record_at base id) (record_at old id) size known)))
+          (f.here ∙ ap (resized_record size) (p.rest id (omega arith)) ∙ sym (sized_is (record_at base id) (record_at old id) size known)))
           (cases_lt k id);
       rest = λ k le. f.elsewhere k (λ is. omega (arith, is, le)) ∙ p.rest k (omega (arith, le));
     }
 
-pub all_sized : (base old new : Table) (id : ℕ) → length old.records ≤ id → ArePartlySized base old new id → new ≡ sized base old
+pub all_sized : (base old new : Table) (id : ℕ) → length old.records ≤ id → ArePartlySized base old new id → new ≡ with_old_sizes base old
 all_sized base old new id end p =
     let f : ℕ → Record = λ k. sized_record (record_at base k) (record_at old k) in
     let ids : List ℕ = table_ids old in
@@ -248,6 +248,6 @@ struct_sized old new id size count b r made lt is at count_is made_is new_is =
       others = put.others;
       count = put.count;
       here = put.here ∙ made_is ∙ ap (λ (n : ℕ). struct r.name size n r.tail) count_is
-          ∙ sym (ap (resized size) here ∙ ap (λ (k : Option Kind). if is_struct k then struct r.name size (vlen r.info) r.tail else r) kind);
+          ∙ sym (ap (resized_record size) here ∙ ap (λ (k : Option Kind). if is_struct k then struct r.name size (vlen r.info) r.tail else r) kind);
       elsewhere = put.elsewhere;
     }

@@ -10,18 +10,18 @@ use Rattle.btf_model.specs.Record as kinds
 use Rattle.btf_model.specs.Record.{Kind, Record, unknown, kind_of, vlen}
 use Rattle.btf_model.specs.Table.{Table, Fallback}
 use Rattle.btf_model.specs.Text.{FindsName}
-use Rattle.btf_rewrite_model.specs.Made.{Entry, entries, record_at, kind_at, data_sec}
+use Rattle.btf_rewrite_model.specs.Made.{Entry, entries, record_at, kind_at, made_data_sec}
 use Rattle.btf_rewrite_model.specs.Made as made
 use Rattle.btf_rewrite_model.proofs.Granted.{kind_made, vlen_small}
-use Rattle.btf_plain.specs.Items.{entry_words}
+use Rattle.btf_plain.specs.Items.{code_entry_words}
 use Rattle.btf_plain.specs.declared.items.DataSecEntry.{DataSecEntry}
 use Rattle.btf_table.specs.Btf.{HasShapeOf}
-use Rattle.btf_table.specs.KsymsStep.{entry}
+use Rattle.btf_table.specs.KsymsStep.{model_entry}
 use Rattle.btf_table.proofs.KsymsEntries.{at, zero_entry}
-use Rattle.btf_object_model.specs.Finalized.{kconfig_name, is_data_sec}
+use Rattle.btf_object_model.specs.Finalized.{kconfig_name, has_data_sec_kind}
 use Rattle.btf_object_model.specs.Kconfig as model
-use Rattle.btf_object_model.specs.Kconfig.{total, laid_out, with_record, with_globals, with_externs, made_global, ConfiguresIf, IsConfigured}
-use Rattle.btf_object.specs.Kconfig.{is_var, IsVariable, IsDataSec, IsSection, StaysAsItIs, LaysOutSection, MakesGlobal, FindsKconfig, HasDataSecOf, PutsSection}
+use Rattle.btf_object_model.specs.Kconfig.{total, externs_laid_out, with_record, with_globals, with_externs, made_global, ConfiguresIf, IsConfigured}
+use Rattle.btf_object.specs.Kconfig.{has_var_kind, IsVariable, IsDataSec, IsKconfigSection, StaysAsItIs, LaysOutSection, MakesGlobal, FindsKconfig, HasDataSecOf, PutsSection}
 use Rattle.btf_object.proofs.Externs.{at_id, kind_at_id}
 use Rattle.btf_object.proofs.FinalSections.{all_entries}
 
@@ -34,11 +34,11 @@ replaced old new id r at is = is ∙ ap (λ (fs : List (Option Fallback)). recor
 
 -- ---- one variable
 
-same_made : (k : Option Kind) (r : Record) → is_var k ≡ false → made_global k r ≡ r
-same_made k r other = elim k as (λ (k : Option Kind). is_var k ≡ false → made_global k r ≡ r) [ Some kinds.Var ↦ λ is. absurd (false≢true (sym is)) | _ ↦ λ is. refl ] other
+same_made : (k : Option Kind) (r : Record) → has_var_kind k ≡ false → made_global k r ≡ r
+same_made k r other = elim k as (λ (k : Option Kind). has_var_kind k ≡ false → made_global k r ≡ r) [ Some kinds.Var ↦ λ is. absurd (false≢true (sym is)) | _ ↦ λ is. refl ] other
 
 -- a type that is no variable
-pub not_global : (t : Table) (id : ℕ) → is_var (kind_at t id) ≡ false → MakesGlobal id t t
+pub not_global : (t : Table) (id : ℕ) → has_var_kind (kind_at t id) ≡ false → MakesGlobal id t t
 not_global t id other =
     let same : set t.records id (made_global (kind_at t id) (record_at t id)) ≡ t.records =
     ap (set t.records id) (same_made (kind_at t id) (record_at t id) other ∙ unwrap_or-slice_get t.records id unknown) ∙ set-get_or t.records id unknown in
@@ -117,11 +117,11 @@ has_shape old now id section es i has are = subst (λ (t : Table). HasShapeOf t 
   len = has.3;
 })
 
-types_of : (es : List DataSecEntry) → map (λ (e : Entry). e.type) (map entry es) ≡ map type_of es
+types_of : (es : List DataSecEntry) → map (λ (e : Entry). e.type) (map model_entry es) ≡ map type_of es
 types_of [] = refl
 types_of (e ∷ es) = ap (λ (xs : List ℕ). e.btf_type ∷ xs) (types_of es)
 
-pub puts : (old now new : Table) (id : ℕ) (section : Record) (es : List DataSecEntry) (i : ℕ) → HasDataSecOf old id section → section.tail ≡ flat_map entry_words es → length es ≤ i → AreGlobalBefore old es i now
+pub puts : (old now new : Table) (id : ℕ) (section : Record) (es : List DataSecEntry) (i : ℕ) → HasDataSecOf old id section → section.tail ≡ flat_map code_entry_words es → length es ≤ i → AreGlobalBefore old es i now
     → new ≡ record now { records = set now.records id section; fallbacks = set now.fallbacks id None } → PutsSection id section old new
 puts old now new id section es i has words end are made =
     let ids : List ℕ = map type_of (take i es) in
@@ -131,7 +131,7 @@ puts old now new id section es i has words end are made =
 
 -- ---- the whole step
 
-laid_types : (from : ℕ) (xs : List model.Extern) → map (λ (e : Entry). e.type) (laid_out from xs) ≡ map (λ (x : model.Extern). x.entry.type) xs
+laid_types : (from : ℕ) (xs : List model.Extern) → map (λ (e : Entry). e.type) (externs_laid_out from xs) ≡ map (λ (x : model.Extern). x.entry.type) xs
 laid_types from [] = refl
 laid_types from (x ∷ xs) = ap (λ (ids : List ℕ). x.entry.type ∷ ids) (laid_types (from + x.value.size) xs)
 
@@ -165,13 +165,13 @@ module _ (old : Table) (id : ℕ) (r : Record) (finds : FindsName old.strings ol
     subst (λ (c : Bool). ConfiguresIf c old id new) (sym (ap (λ (x : Record). x.third == 0) record_is ∙ size)) z,
   )
 
-  pub configures : (section : Record) (new : Table) → IsSection old r section → PutsSection id section old new → IsConfigured old new
+  pub configures : (section : Record) (new : Table) → IsKconfigSection old r section → PutsSection id section old new → IsConfigured old new
   configures section new s put =
       let types_are : map (λ (e : Entry). e.type) (entries section.tail) ≡ map (λ (x : model.Extern). x.entry.type) s.sorted =
-      ap (λ (x : Record). map (λ (e : Entry). e.type) (entries x.tail)) s.made ∙ ap (map (λ (e : Entry). e.type)) (entries_again (laid_out 0 s.sorted)) ∙ laid_types 0 s.sorted in
+      ap (λ (x : Record). map (λ (e : Entry). e.type) (entries x.tail)) s.made ∙ ap (map (λ (e : Entry). e.type)) (entries_again (externs_laid_out 0 s.sorted)) ∙ laid_types 0 s.sorted in
       let table_is : new ≡ with_externs old id s.sorted =
       put ∙ ap (λ (ids : List ℕ). with_record (with_globals ids old) id section) types_are
-      ∙ ap (with_record (with_globals (map (λ (x : model.Extern). x.entry.type) s.sorted) old) id) (s.made ∙ ap (λ (x : Record). data_sec x.name (total s.sorted) (vlen x.info) (laid_out 0 s.sorted)) (sym record_is)) in
+      ∙ ap (with_record (with_globals (map (λ (x : model.Extern). x.entry.type) s.sorted) old) id) (s.made ∙ ap (λ (x : Record). made_data_sec x.name (total s.sorted) (vlen x.info) (externs_laid_out 0 s.sorted)) (sym record_is)) in
       let chosen : new ≡ (if nat_lt (total s.sorted) (2 ^ 32) then with_externs old id s.sorted else old) =
       table_is ∙ sym (ap (λ (b : Bool). if b then with_externs old id s.sorted else old) (below (total s.sorted) (2 ^ 32) s.fits)) in
       configured_by new true (is_zero r.third s.empty) (
@@ -195,13 +195,13 @@ module _ (old : Table) (id : ℕ) (r : Record) (finds : FindsName old.strings ol
       )
 
 -- the DATASEC is laid out, and is as long as before
-pub has_data_sec : (t : Table) (id : ℕ) (r section : Record) → IsDataSec t id r → IsSection t r section → HasDataSecOf t id section
+pub has_data_sec : (t : Table) (id : ℕ) (r section : Record) → IsDataSec t id r → IsKconfigSection t r section → HasDataSecOf t id section
 has_data_sec t id r section is s =
     (r, is, ap (λ (x : Record). kind_of x.info) s.made ∙ kind_made 15 (vlen r.info) kinds.DataSec (omega arith) (vlen_small r.info) refl, s.len)
 
 -- the id that the search finds is a DATASEC's
-pub no_data_sec : (t : Table) (id : ℕ) → FindsName t.strings t.records kinds.DataSec kconfig_name (Ok id) → is_data_sec (kind_at t id) ≡ false → ⊥
-no_data_sec t id z other = false≢true (sym other ∙ ap is_data_sec (kind_at_id t id z.0 kinds.DataSec z.1.1 z.1.2))
+pub no_data_sec : (t : Table) (id : ℕ) → FindsName t.strings t.records kinds.DataSec kconfig_name (Ok id) → has_data_sec_kind (kind_at t id) ≡ false → ⊥
+no_data_sec t id z other = false≢true (sym other ∙ ap has_data_sec_kind (kind_at_id t id z.0 kinds.DataSec z.1.1 z.1.2))
 
 -- the search for `.kconfig`
 pub not_found : (t : Table) (o : Option ℕ) → o ≡ None → FindsKconfig t o → IsConfigured t t
@@ -215,5 +215,5 @@ found_id t o id is finds = subst (FindsKconfig t) is finds
 pub section_stays : (t : Table) (r : Record) (o : Option Record) → o ≡ None → LaysOutSection t r o → StaysAsItIs t r
 section_stays t r o none made = subst (LaysOutSection t r) none made
 
-pub section_is : (t : Table) (r : Record) (o : Option Record) (section : Record) → o ≡ Some section → LaysOutSection t r o → IsSection t r section
+pub section_is : (t : Table) (r : Record) (o : Option Record) (section : Record) → o ≡ Some section → LaysOutSection t r o → IsKconfigSection t r section
 section_is t r o section is made = subst (LaysOutSection t r) is made

@@ -14,13 +14,13 @@ use Rattle.btf_elf_model.specs.declared.section_header.SectionHeader.{SectionHea
 use Rattle.btf_rewrite_model.specs.declared.feature.FeatureAnswer.{FeatureAnswer}
 use Rattle.btf_model.specs.Refusal.{Refusal}
 use Rattle.btf_rewrite_model.specs.declared.feature.BtfFeature.{BtfFeature}
-use Rattle.btf_object_model.specs.Finalized.{with_ksyms_size, sized}
+use Rattle.btf_object_model.specs.Finalized.{with_ksyms_size, with_old_sizes}
 use Rattle.btf_object_model.specs.Sanitized.{Target, HasSection, RewritesTable, IsSanitized, table_name}
 use Rattle.btf_object_model.specs.SanitizedFinalized.{RewritesFinalized, IsSanitizedFinalized}
 use Rattle.btf_plain.specs.Error.{refusal_of}
 use Rattle.btf_plain.specs.declared.error.BtfError.{BtfError}
 use Rattle.btf_plain.specs.declared.error.BtfError.TheVariants as table
-use Rattle.btf_object.specs.Errors.{of_table, of_section, IsCauseBy}
+use Rattle.btf_object.specs.Errors.{from_table, of_section, IsCauseBy}
 use Rattle.btf_object.specs.Names.{IsTableSection}
 use Rattle.btf_object.specs.declared.error.SanitizeError.{SanitizeError}
 
@@ -43,10 +43,10 @@ module _ (bytes : List ℕ) (o : Object) (index : ℕ) (t : List ℕ) (object : 
   has_section = record { object = object; first = f.first; header = f.here }
 
   -- the table of the section is refused
-  pub table_cause : (Refuses : Object → List ℕ → Refusal → Type 0) (Rewrites : Object → List ℕ → Type 0) (e : BtfError) → IfSome (refusal_of e) (Refuses o t) → IsCauseBy Refuses Rewrites bytes (of_table e)
+  pub table_cause : (Refuses : Object → List ℕ → Refusal → Type 0) (Rewrites : Object → List ℕ → Type 0) (e : BtfError) → IfSome (refusal_of e) (Refuses o t) → IsCauseBy Refuses Rewrites bytes (from_table e)
   table_cause Refuses Rewrites e refused =
       let here : IfSome (refusal_of e) (Refuses o (section_bytes o f.section)) = subst (λ (b : List ℕ). IfSome (refusal_of e) (Refuses o b)) f.bytes_are refused in
-      elim e as (λ (x : BtfError). IfSome (refusal_of x) (Refuses o (section_bytes o f.section)) → IsCauseBy Refuses Rewrites bytes (of_table x))
+      elim e as (λ (x : BtfError). IfSome (refusal_of x) (Refuses o (section_bytes o f.section)) → IsCauseBy Refuses Rewrites bytes (from_table x))
       [ table.OutOfMemory ↦ λ _. tt | _ ↦ λ is. (o, index, f.section, has_section, (_, refl, is)) ] here
 
   -- the section cannot be replaced
@@ -81,10 +81,10 @@ module _ (bytes : List ℕ) (o : Object) (index : ℕ) (t : List ℕ) (object : 
   }
 
   -- so is the table that was finalized before
-  pub sanitized_finalized : (has : BtfFeature → Bool) (given file : List ℕ) (answers : List FeatureAnswer) → (old base new : Table) × (made : RewritesFinalized o t has old base new answers) × (given ≡ canon (sized (with_ksyms_size base made.ids) new)) → HasReplaced o index given file
+  pub sanitized_finalized : (has : BtfFeature → Bool) (given file : List ℕ) (answers : List FeatureAnswer) → (old base new : Table) × (made : RewritesFinalized o t has old base new answers) × (given ≡ canon (with_old_sizes (with_ksyms_size base made.ids) new)) → HasReplaced o index given file
       → IsSanitizedFinalized bytes has file answers
   sanitized_finalized has given file answers m replaced =
-      let Made : List ℕ → Type 0 = λ b. (made : RewritesFinalized o b has m.0 m.1 m.2 answers) × (given ≡ canon (sized (with_ksyms_size m.1 made.ids) m.2)) in
+      let Made : List ℕ → Type 0 = λ b. (made : RewritesFinalized o b has m.0 m.1 m.2 answers) × (given ≡ canon (with_old_sizes (with_ksyms_size m.1 made.ids) m.2)) in
       let here : Made (section_bytes o f.section) = subst Made f.bytes_are (m.3, m.4) in
       record {
         object = o;
@@ -95,5 +95,5 @@ module _ (bytes : List ℕ) (o : Object) (index : ℕ) (t : List ℕ) (object : 
         base = m.1;
         new = m.2;
         table = here.0;
-        replaced = in_place given (canon (sized (with_ksyms_size m.1 here.0.ids) m.2)) file here.1 replaced;
+        replaced = in_place given (canon (with_old_sizes (with_ksyms_size m.1 here.0.ids) m.2)) file here.1 replaced;
       }

@@ -19,7 +19,7 @@ use Rattle.btf_rewrite_model.specs.declared.ksyms_ids.KsymsIds.{KsymsIds}
 use Rattle.btf_rewrite_model.proofs.Kept.{by_table}
 use Rattle.btf_table.specs.Checked.{checked}
 use Rattle.btf_table.proofs.Checks.{checked_ok, checked_err}
-use Rattle.btf_object_model.specs.Finalized.{with_int, with_variable, has_functions, with_placeholder, with_placeholder_id, placeholder_fault, with_ksyms_size, sized}
+use Rattle.btf_object_model.specs.Finalized.{with_int, with_variable, has_functions, with_placeholder, with_placeholder_id, placeholder_fault, with_ksyms_size, with_old_sizes}
 use Rattle.btf_rewrite_model.specs.FeatureSet.{answers_of}
 use Rattle.btf_object_model.specs.Ksyms.{FindsKsyms}
 use Rattle.btf_object_model.specs.Layout as model
@@ -86,14 +86,14 @@ module _ (o : Object) (bytes : List ℕ) (has : BtfFeature → Bool) (old base :
 
       -- the rewrite succeeds, and the sizes are set
       pub rewrites_finalized : (new made : Table) (answers : List FeatureAnswer) (given_bytes : List ℕ) → Rewritten FillSized begun given layout (answers_of has) new → AreAnswers (kernel_target has) (Asked (pass_of FillSized begun given layout answers)) answers
-          → new.order ≡ begun.order → made ≡ sized (with_ksyms_size base ids) new → given_bytes ≡ canon made → IsTable made.order given_bytes (strip made)
-          → (all : RewritesFinalized o bytes has old base new answers) × (given_bytes ≡ canon (sized (with_ksyms_size base all.ids) new))
+          → new.order ≡ begun.order → made ≡ with_old_sizes (with_ksyms_size base ids) new → given_bytes ≡ canon made → IsTable made.order given_bytes (strip made)
+          → (all : RewritesFinalized o bytes has old base new answers) × (given_bytes ≡ canon (with_old_sizes (with_ksyms_size base all.ids) new))
       rewrites_finalized new made answers given_bytes is are order made_is written again =
           let order_is : made.order ≡ o.header.order =
           ap (λ (t : Table). t.order) made_is ∙ order ∙ ap (λ (t : Table). t.order) begun_is ∙ placeholder_order base ids ∙ ap (λ (t : Table). t.order) (opened_others layout old base opened) ∙ table.same_order in
-          let bytes_are : given_bytes ≡ canon (sized (with_ksyms_size base ids) new) = written ∙ ap canon made_is in
-          let read : IsTable o.header.order (canon (sized (with_ksyms_size base ids) new)) (strip (sized (with_ksyms_size base ids) new)) =
-          subst (λ (t : Table). IsTable o.header.order (canon (sized (with_ksyms_size base ids) new)) (strip t)) made_is
+          let bytes_are : given_bytes ≡ canon (with_old_sizes (with_ksyms_size base ids) new) = written ∙ ap canon made_is in
+          let read : IsTable o.header.order (canon (with_old_sizes (with_ksyms_size base ids) new)) (strip (with_old_sizes (with_ksyms_size base ids) new)) =
+          subst (λ (t : Table). IsTable o.header.order (canon (with_old_sizes (with_ksyms_size base ids) new)) (strip t)) made_is
           (subst (λ (b : List ℕ). IsTable o.header.order b (strip made)) bytes_are (subst (λ (e : Endianness). IsTable e given_bytes (strip made)) order_is again)) in (
             record {
               ids = ids;

@@ -13,7 +13,7 @@ use Rattle.btf_elf_model.specs.declared.section_header.SectionHeader.{SectionHea
 use Rattle.btf_rewrite_model.specs.declared.feature.BtfFeature.{BtfFeature}
 use Rattle.btf_rewrite_model.specs.declared.feature.FeatureAnswer.{FeatureAnswer}
 use Rattle.btf_rewrite_model.specs.declared.feature.FillPolicy.{FillPolicy}
-use Rattle.btf_object_model.specs.Sanitized.{Target, HasSection, RewritesTable, RefusesTable, index_of, table_name}
+use Rattle.btf_object_model.specs.Sanitized.{Target, HasSection, RewritesTable, RefusesTable, first_section_index, table_name}
 use Rattle.btf_object_model.specs.SanitizedFinalized.{RewritesFinalized, RefusesFinalized}
 use Rattle.btf_plain.specs.Error.{refusal_of}
 use Rattle.btf_plain.specs.declared.error.BtfError.{BtfError}
@@ -25,13 +25,13 @@ use Rattle.btf_object.specs.declared.error.SanitizeError.TheVariants.{Object, No
 
 -- ---- errors of the steps
 
-abbrev pub of_object : ObjectError → SanitizeError
-of_object object.OutOfMemory = OutOfMemory
-of_object e = Object e
+abbrev pub from_object : ObjectError → SanitizeError
+from_object object.OutOfMemory = OutOfMemory
+from_object e = Object e
 
-abbrev pub of_table : BtfError → SanitizeError
-of_table table.OutOfMemory = OutOfMemory
-of_table e = TableError e
+abbrev pub from_table : BtfError → SanitizeError
+from_table table.OutOfMemory = OutOfMemory
+from_table e = TableError e
 
 abbrev pub of_section : ReplaceError → SanitizeError
 of_section replace.OutOfMemory = OutOfMemory
@@ -49,7 +49,7 @@ abbrev pub IsCauseBy : (elf.Object → List ℕ → Refusal → Type 0) → (elf
     → SanitizeError → Type 0
 IsCauseBy Refuses Rewrites bytes (Object e) = (p : ParseError) × (e ≡ object.Parse p) × elf.IsParseError bytes p
 IsCauseBy Refuses Rewrites bytes NoTable =
-    (o : elf.Object) × elf.IsObject bytes o × (index_of o table_name ≡ None)
+    (o : elf.Object) × elf.IsObject bytes o × (first_section_index o table_name ≡ None)
 IsCauseBy Refuses Rewrites bytes (TableError e) =
     (o : elf.Object) × (index : ℕ) × (s : SectionHeader) × HasSection bytes table_name o index s
     × ((refusal : Refusal) × (refusal_of e ≡ Some refusal) × Refuses o (elf.section_bytes o s) refusal)
@@ -67,8 +67,8 @@ RewritesFor target o table =
     (old new : Table) × (answers : List FeatureAnswer) × RewritesTable o table target old new answers
 
 -- why an object is not rewritten for a target
-abbrev pub IsCause : List ℕ → Target → SanitizeError → Type 0
-IsCause bytes target e = IsCauseBy (RefusesFor target) (RewritesFor target) bytes e
+abbrev pub IsSanitizeCause : List ℕ → Target → SanitizeError → Type 0
+IsSanitizeCause bytes target e = IsCauseBy (RefusesFor target) (RewritesFor target) bytes e
 
 -- The table of a section is refused for a kernel with these features, or is finalized and rewritten for it.
 abbrev pub RefusesFinalizedFor : (BtfFeature → Bool) → elf.Object → List ℕ → Refusal → Type 0

@@ -11,8 +11,8 @@ use Rattle.btf_rewrite_model.specs.Checks.{in_a_word}
 use Rattle.btf_rewrite_model.specs.Made.{Entry, entries, record_at, kind_at, struct}
 use Rattle.btf_rewrite_model.specs.Pass.{Layout}
 use Rattle.btf_plain.specs.declared.items.DataSecEntry.{DataSecEntry}
-use Rattle.btf_table.specs.KsymsStep.{entry}
-use Rattle.btf_object_model.specs.Finalized.{section_size, placed, is_completed, final_size, final_entries, is_data_sec, is_struct, IsFinal}
+use Rattle.btf_table.specs.KsymsStep.{model_entry}
+use Rattle.btf_object_model.specs.Finalized.{known_section_size, entry_at_offset, is_completed, completed_size, final_entries, has_data_sec_kind, is_struct, IsFinal}
 use Rattle.btf_object.specs.declared.finalize.known.KnownNames.{KnownNames}
 
 -- ---- names
@@ -23,31 +23,31 @@ symbol_of layout (Ok name) = Some (in_a_word (layout.symbols name))
 symbol_of layout (Err refusal) = None
 
 -- Each cached value is the one that `find` gives for the name at its string offset.
-abbrev pub AreKnown : {V : Type 0} → (Result (List ℕ) Refusal → V) → List ℕ → BTreeMap ℕ V → Type 0
-AreKnown {V} find strings known =
+abbrev pub AreCached : {V : Type 0} → (Result (List ℕ) Refusal → V) → List ℕ → BTreeMap ℕ V → Type 0
+AreCached {V} find strings known =
     (offset : ℕ) (v : V) → get nat_cmp known offset ≡ Some v → find (text_at strings offset) ≡ v
 
 -- All cached values are correct for these strings and this layout.
-pub record AreRead (strings : List ℕ) (layout : Layout) (names : KnownNames) : Type 0 where
-  pub sizes : AreKnown (section_size layout) strings names.sizes
-  pub symbols : AreKnown (symbol_of layout) strings names.symbols
+pub record AreNamesCached (strings : List ℕ) (layout : Layout) (names : KnownNames) : Type 0 where
+  pub sizes : AreCached (known_section_size layout) strings names.sizes
+  pub symbols : AreCached (symbol_of layout) strings names.symbols
 
 -- ---- DATASECs
 
 -- a size and entries of the code as those of the definitions
 abbrev pub parts_of : {A : Type 0} → ℕ × Vec DataSecEntry A → ℕ × List Entry
-parts_of parts = (parts.0, map entry parts.1.items)
+parts_of parts = (parts.0, map model_entry parts.1.items)
 
 -- the size and the entries of a DATASEC that is completed
 abbrev pub completed_parts : Layout → Table → Record → Option (ℕ × List Entry)
 completed_parts layout t r =
     if is_completed layout t r
-    then Some (unwrap_or (section_size layout (text_at t.strings r.name)) 0, map (placed layout t) (entries r.tail))
+    then Some (unwrap_or (known_section_size layout (text_at t.strings r.name)) 0, map (entry_at_offset layout t) (entries r.tail))
     else None
 
 -- the size and the entries of a DATASEC, completed or not
 abbrev pub final_parts : Layout → Table → Record → ℕ × List Entry
-final_parts layout t r = (final_size layout t r, final_entries layout t r)
+final_parts layout t r = (completed_size layout t r, final_entries layout t r)
 
 -- The record of an id becomes its final record, with its kind, and nothing else changes.
 pub record FinalizesAt (layout : Layout) (id : ℕ) (old new : Table) : Type 0 where
@@ -61,15 +61,15 @@ pub record FinalizesAt (layout : Layout) (id : ℕ) (old new : Table) : Type 0 w
 
 -- the size of a DATASEC; none for another record
 abbrev pub data_sec_size : Record → Option ℕ
-data_sec_size r = if is_data_sec (kind_of r.info) then Some r.third else None
+data_sec_size r = if has_data_sec_kind (kind_of r.info) then Some r.third else None
 
 -- a STRUCT of another size; another record is unchanged
-abbrev pub resized : ℕ → Record → Record
-resized size r = if is_struct (kind_of r.info) then struct r.name size (vlen r.info) r.tail else r
+abbrev pub resized_record : ℕ → Record → Record
+resized_record size r = if is_struct (kind_of r.info) then struct r.name size (vlen r.info) r.tail else r
 
 -- The record of an id gets this size if it is a STRUCT, and nothing else changes.
 pub record ResizesAt (id size : ℕ) (old new : Table) : Type 0 where
   pub others : new ≡ record old { records = new.records }
   pub count : length new.records ≡ length old.records
-  pub here : record_at new id ≡ resized size (record_at old id)
+  pub here : record_at new id ≡ resized_record size (record_at old id)
   pub elsewhere : (k : ℕ) → k ≢ id → record_at new k ≡ record_at old k

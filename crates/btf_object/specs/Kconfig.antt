@@ -6,20 +6,20 @@ use Rattle.btf_model.specs.Record.{Kind, Record, kind_of, vlen}
 use Rattle.btf_model.specs.Refusal.{Refusal}
 use Rattle.btf_model.specs.Table.{Table}
 use Rattle.btf_model.specs.Text.{FindsName}
-use Rattle.btf_rewrite_model.specs.Made.{Entry, entries, record_at, kind_at, data_sec}
-use Rattle.btf_table.specs.KsymsStep.{entry}
+use Rattle.btf_rewrite_model.specs.Made.{Entry, entries, record_at, kind_at, made_data_sec}
+use Rattle.btf_table.specs.KsymsStep.{model_entry}
 use Rattle.btf_object_model.specs.Finalized.{kconfig_name}
 use Rattle.btf_object_model.specs.Kconfig as model
-use Rattle.btf_object_model.specs.Kconfig.{FindsExterns, extern_cmp, total, laid_out, with_record, with_globals, made_global}
+use Rattle.btf_object_model.specs.Kconfig.{FindsExterns, extern_cmp, total, externs_laid_out, with_record, with_globals, made_global}
 use Rattle.btf_object.specs.declared.finalize.kconfig.Extern.{Extern}
 use Rattle.btf_object.specs.declared.finalize.kconfig.Value.{Value}
 
 -- ---- types of a kind
 
 -- the kind is VAR
-abbrev pub is_var : Option Kind → Bool
-is_var (Some kinds.Var) = true
-is_var k = false
+abbrev pub has_var_kind : Option Kind → Bool
+has_var_kind (Some kinds.Var) = true
+has_var_kind k = false
 
 -- The type of an id is a VAR with this record.
 pub record IsVariable (t : Table) (id : ℕ) (r : Record) : Type 0 where
@@ -36,11 +36,11 @@ pub record IsDataSec (t : Table) (id : ℕ) (r : Record) : Type 0 where
 -- ---- externs
 
 -- a value and an extern of the code as those of the definitions
-abbrev pub value_of : Value → model.Value
-value_of v = record { size = v.size; alignment = v.alignment }
+abbrev pub config_value_of : Value → model.ConfigValue
+config_value_of v = record { size = v.size; alignment = v.alignment }
 
-abbrev pub extern_of : Extern → model.Extern
-extern_of x = record { entry = entry x.entry.now; value = value_of x.value; name = x.name.now }
+abbrev pub model_extern : Extern → model.Extern
+model_extern x = record { entry = model_entry x.entry.now; value = config_value_of x.value; name = x.name.now }
 
 -- The externs of a DATASEC's record, in order.
 pub record HasExterns (t : Table) (r : Record) (sorted : List model.Extern) : Type 0 where
@@ -50,12 +50,12 @@ pub record HasExterns (t : Table) (r : Record) (sorted : List model.Extern) : Ty
   pub stable : IsStable extern_cmp externs sorted
 
 -- The new record is the DATASEC, which had size 0, with its externs in order.
-pub record IsSection (t : Table) (r new : Record) : Type 0 where
+pub record IsKconfigSection (t : Table) (r new : Record) : Type 0 where
   pub sorted : List model.Extern
   pub externs : HasExterns t r sorted
   pub empty : r.third ≡ 0
   pub fits : total sorted < 2 ^ 32
-  pub made : new ≡ data_sec r.name (total sorted) (vlen r.info) (laid_out 0 sorted)
+  pub made : new ≡ made_data_sec r.name (total sorted) (vlen r.info) (externs_laid_out 0 sorted)
   pub len : length new.tail ≡ length r.tail
 
 -- The DATASEC has a size, or not all externs are known, or their total size exceeds 32 bits.
@@ -66,7 +66,7 @@ StaysAsItIs t r =
 
 -- The DATASEC with its externs in order, or none if it stays as it is.
 abbrev pub LaysOutSection : Table → Record → Option Record → Type 0
-LaysOutSection t r (Some new) = IsSection t r new
+LaysOutSection t r (Some new) = IsKconfigSection t r new
 LaysOutSection t r None = StaysAsItIs t r
 
 -- ---- the table

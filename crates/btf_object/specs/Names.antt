@@ -4,13 +4,13 @@ use Rattle.std.specs.HashMap.{HashMap, get_by_text}
 use Rattle.btf_elf_model.specs.Object.{Object, section_name, section_bytes, symbols, symbol_name}
 use Rattle.btf_elf_model.specs.declared.section_header.SectionHeader.{SectionHeader}
 use Rattle.btf_elf_model.specs.declared.symbol.Symbol.{Symbol}
-use Rattle.btf_object_model.specs.Layout.{is_askable, is_read}
-use Rattle.btf_object_model.specs.Sanitized.{index_of, table_name}
+use Rattle.btf_object_model.specs.Layout.{is_askable, is_read_symbol}
+use Rattle.btf_object_model.specs.Sanitized.{first_section_index, table_name}
 use Rattle.btf_plain.specs.declared.section_index.SectionIndex.{SectionIndex}
 
 -- the index that a map has for the section of a name
-abbrev pub indices_of : {Y S : Type 0} → HashMap (String Y) (SectionIndex × ℕ) S → List ℕ → Option ℕ
-indices_of sections name = option_map (λ (s : SectionIndex × ℕ). s.0.0) (get_by_text sections name)
+abbrev pub name_indices : {Y S : Type 0} → HashMap (String Y) (SectionIndex × ℕ) S → List ℕ → Option ℕ
+name_indices sections name = option_map (λ (s : SectionIndex × ℕ). s.0.0) (get_by_text sections name)
 
 -- The section of an index has this name, and a rewrite may ask for the name; and it has this size.
 pub record IsReadSection (o : Object) (index : ℕ) (name : List ℕ) (size : ℕ) : Type 0 where
@@ -29,7 +29,7 @@ IsSectionLeftOut o index =
 pub record IsReadSymbol (o : Object) (index : ℕ) (name : List ℕ) (value : ℕ) : Type 0 where
   pub symbol : Symbol
   pub here : slice_get (symbols o) index ≡ Some symbol
-  pub wanted : is_read symbol ≡ true
+  pub wanted : is_read_symbol symbol ≡ true
   pub named : name ≡ symbol_name o symbol
   pub askable : is_askable name ≡ true
   pub value_is : value ≡ symbol.value
@@ -38,11 +38,11 @@ pub record IsReadSymbol (o : Object) (index : ℕ) (name : List ℕ) (value : �
 abbrev pub IsSymbolLeftOut : Object → ℕ → Type 0
 IsSymbolLeftOut o index =
     (s : Symbol) → slice_get (symbols o) index ≡ Some s
-    → (is_read s ≡ false) ⊎ (is_askable (symbol_name o s) ≡ false)
+    → (is_read_symbol s ≡ false) ⊎ (is_askable (symbol_name o s) ≡ false)
 
 -- The first section that is named `.BTF` has this index and these bytes.
 pub record IsTableSection (o : Object) (index : ℕ) (bytes : List ℕ) : Type 0 where
   pub section : SectionHeader
-  pub first : index_of o table_name ≡ Some index
+  pub first : first_section_index o table_name ≡ Some index
   pub here : slice_get o.sections index ≡ Some section
   pub bytes_are : bytes ≡ section_bytes o section

@@ -1,7 +1,7 @@
 //! Why an object is not rewritten.
 
 ghost use Rattle.std.specs.Prelude.{◌≡◌};
-ghost use Rattle.btf_object.specs.Errors.{of_object, of_table, of_section};
+ghost use Rattle.btf_object.specs.Errors.{from_object, from_table, of_section};
 ghost use Rattle.btf_object.specs.declared.error.SanitizeError.TheVariants.{OutOfMemory};
 
 use btf_elf::{ObjectError, ReplaceError};
@@ -44,7 +44,7 @@ impl From<AllocError> for SanitizeError {
 }
 
 impl From<ObjectError> for SanitizeError {
-    ghost from_gives = { λ e f. f ≡ of_object e };
+    ghost from_gives = { λ e f. f ≡ from_object e };
 
     fn from(error: ObjectError) -> SanitizeError {
         match error {
@@ -55,7 +55,7 @@ impl From<ObjectError> for SanitizeError {
 }
 
 impl From<BtfError> for SanitizeError {
-    ghost from_gives = { λ e f. f ≡ of_table e };
+    ghost from_gives = { λ e f. f ≡ from_table e };
 
     fn from(error: BtfError) -> SanitizeError {
         match error {

@@ -11,7 +11,7 @@ ghost use Rattle.btf_model.specs.Record.{DataSec};
 ghost use Rattle.btf_table.specs.Layout.{layout_of};
 ghost use Rattle.btf_object_model.specs.Finalized.{IsFinal, IsFinalized};
 ghost use Rattle.btf_object_model.specs.SanitizedFinalized.{IsOpened};
-ghost use Rattle.btf_object.specs.Finalize.{AreRead, FinalizesAt};
+ghost use Rattle.btf_object.specs.Finalize.{AreNamesCached, FinalizesAt};
 
 use crate::finalize::kconfig::configure;
 use crate::finalize::known::KnownNames;
@@ -34,12 +34,13 @@ fn finalize_type<H: BuildHasher>(
     type_id: u32,
 ) -> Result<(), BtfError>
     requires known { type_id < length btf.old.records }
-    requires read { AreRead btf.old.strings
+    requires read { AreNamesCached btf.old.strings
         (layout_of layout.now.sections layout.now.symbols) names.old }
     ensures made { OnOk result (FinalizesAt (layout_of layout.now.sections layout.now.symbols)
         type_id btf.old btf.new) }
     ensures read { OnOk result
-        (AreRead btf.new.strings (layout_of layout.now.sections layout.now.symbols) names.new) }
+        (AreNamesCached btf.new.strings (layout_of layout.now.sections layout.now.symbols)
+        names.new) }
     ensures memory { IfErr result (λ e. e ≡ BtfError.OutOfMemory) }
 {
     let Ok(BtfType::DataSec(data_sec)) = btf.type_by_id(type_id) else {

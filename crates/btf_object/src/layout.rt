@@ -3,7 +3,7 @@
 ghost use Rattle.std.specs.Prelude.{◌≡◌, List, ℕ, IfOk, IfSome, IfNone};
 ghost use Rattle.btf_table.specs.Layout.{layout_of, sizes_of, offsets_of};
 ghost use Rattle.btf_object_model.specs.Layout as model;
-ghost use Rattle.btf_object.specs.Names.{indices_of, IsReadSection, IsSectionLeftOut, IsReadSymbol, IsSymbolLeftOut};
+ghost use Rattle.btf_object.specs.Names.{name_indices, IsReadSection, IsSectionLeftOut, IsReadSymbol, IsSymbolLeftOut};
 
 use crate::names::{section_text, symbol_text};
 use btf_elf::{Object, Symbol};
@@ -43,7 +43,7 @@ impl<H: BuildHasher> ObjectLayout<H> {
         ensures layout { IfOk result (λ l.
             layout_of l.sections l.symbols ≡ model.object_layout object.now) }
         ensures indices { IfOk result (λ l. (name : List ℕ)
-            → indices_of l.sections name ≡ model.last_index_of object.now name) }
+            → name_indices l.sections name ≡ model.last_index_of object.now name) }
     {
         let sections = read_sections(alloc, object, hash_builder.clone()?)?;
         let symbols = read_symbols(alloc, object, hash_builder)?;
@@ -59,7 +59,7 @@ const STT_OBJECT: u8 = 1;
 
 /// Whether the offset of a symbol is read.
 fn is_read(symbol: &Symbol) -> bool
-    ensures { result ≡ model.is_read symbol.now }
+    ensures { result ≡ model.is_read_symbol symbol.now }
 {
     symbol.binding != STB_LOCAL || symbol.kind == STT_OBJECT
 }
@@ -94,9 +94,9 @@ fn read_sections<H: BuildHasher + Drop>(
     hash_builder: H,
 ) -> Result<HashMap<String, (SectionIndex, u64), H>, AllocError>
     ensures sizes { IfOk result (λ map. (name : List ℕ)
-        → sizes_of map name ≡ model.size_of object.now name) }
+        → sizes_of map name ≡ model.last_section_size object.now name) }
     ensures indices { IfOk result (λ map. (name : List ℕ)
-        → indices_of map name ≡ model.last_index_of object.now name) }
+        → name_indices map name ≡ model.last_index_of object.now name) }
 {
     let mut map = HashMap::with_hasher(alloc, hash_builder);
     for index in 0..object.sections().len() {

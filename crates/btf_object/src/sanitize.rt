@@ -5,10 +5,10 @@ ghost use Rattle.std.specs.Option.{option_map};
 ghost use Rattle.btf_elf_model.specs.Object as elf;
 ghost use Rattle.btf_elf_model.specs.declared.section_header.SectionHeader.{SectionHeader};
 ghost use Rattle.btf_object_model.specs.Laws.{KeepsExt};
-ghost use Rattle.btf_object_model.specs.Sanitized.{HasSection, IsSanitized, index_of, table_name, ext_name};
+ghost use Rattle.btf_object_model.specs.Sanitized.{HasSection, IsSanitized, first_section_index, table_name, ext_name};
 ghost use Rattle.btf_object.specs.Names.{IsTableSection};
 ghost use Rattle.btf_object_model.specs.SanitizedFinalized.{IsSanitizedFinalized};
-ghost use Rattle.btf_object.specs.Errors.{target_of, IsCause, IsFinalizedCause};
+ghost use Rattle.btf_object.specs.Errors.{target_of, IsSanitizeCause, IsFinalizedCause};
 ghost use Rattle.btf_object.specs.Kernel.{kernel_has};
 
 use crate::error::SanitizeError;
@@ -23,7 +23,7 @@ use std::hash::{BuildHasher, BuildHasherDefault, FoldHasher};
 /// The index and the bytes of the first section that is named `.BTF`.
 fn table_section<'a>(object: &Object<'a>) -> Option<(usize, &'a [u8])>
     ensures some { IfSome result (λ found. IsTableSection object.now found.0 found.1.now) }
-    ensures none { IfNone result (index_of object.now table_name ≡ None) }
+    ensures none { IfNone result (first_section_index object.now table_name ≡ None) }
 {
     let index = object.section_by_name(b".BTF")?;
     let section = object.sections().get(index)?;
@@ -43,7 +43,7 @@ pub fn sanitize_object(
     ensures ext { IfOk result (λ r. (o : elf.Object) (index : ℕ) (s : SectionHeader)
         → HasSection bytes.now ext_name o index s
         → (new : elf.Object) × KeepsExt bytes.now r.0.items o new index s) }
-    ensures refused { IfErr result (IsCause bytes.now (target_of kernel.now policy None)) }
+    ensures refused { IfErr result (IsSanitizeCause bytes.now (target_of kernel.now policy None)) }
 {
     let hash_builder: BuildHasherDefault<FoldHasher> = BuildHasherDefault::new();
     sanitize_object_with(alloc, bytes, kernel, policy, None, hash_builder)
@@ -77,7 +77,7 @@ pub fn sanitize_object_with<H: BuildHasher + Clone + Drop>(
         → HasSection bytes.now ext_name o index s
         → (new : elf.Object) × KeepsExt bytes.now r.0.items o new index s) }
     // An error is the first one in the stated order.
-    ensures refused { IfErr result (IsCause bytes.now
+    ensures refused { IfErr result (IsSanitizeCause bytes.now
         (target_of kernel.now policy (option_map (λ name. name.now) placeholder.entry))) }
 {
     let object = Object::parse(alloc, bytes)?;
@@ -99,7 +99,7 @@ pub fn sanitize_parsed<H: BuildHasher + Clone + Drop>(
     ensures ext { IfOk result (λ r. (o : elf.Object) (index : ℕ) (s : SectionHeader)
         → HasSection object.now.bytes ext_name o index s
         → (new : elf.Object) × KeepsExt object.now.bytes r.0.items o new index s) }
-    ensures refused { IfErr result (IsCause object.now.bytes
+    ensures refused { IfErr result (IsSanitizeCause object.now.bytes
         (target_of kernel.now policy (option_map (λ name. name.now) placeholder.entry))) }
 {
     // The contract is about the object of its bytes, which this shows.

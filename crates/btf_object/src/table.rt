@@ -7,7 +7,7 @@ ghost use Rattle.btf_model.specs.Blob.{canon};
 ghost use Rattle.btf_rewrite_model.specs.Pass.{Asked};
 ghost use Rattle.btf_rewrite_model.specs.Rewritten.{pass_of, Rewritten, IsRefused};
 ghost use Rattle.btf_table.specs.Layout.{layout_of};
-ghost use Rattle.btf_object_model.specs.Finalized.{with_ksyms_size, sized};
+ghost use Rattle.btf_object_model.specs.Finalized.{with_ksyms_size, with_old_sizes};
 ghost use Rattle.btf_rewrite_model.specs.FeatureSet.{answers_of};
 ghost use Rattle.btf_object_model.specs.Sanitized.{RewritesTable, RefusesTable, AreAnswers};
 ghost use Rattle.btf_object_model.specs.SanitizedFinalized.{RewritesFinalized, RefusesFinalized};
@@ -98,7 +98,7 @@ pub fn finalized<H: BuildHasher + Clone + Drop>(
     ensures made { IfOk result (λ r. (old base new : Table)
         × (made : RewritesFinalized object.now table.now (kernel_has kernel.now) old base new
         r.1.items)
-        × (r.0.items ≡ canon (sized (with_ksyms_size base made.ids) new))) }
+        × (r.0.items ≡ canon (with_old_sizes (with_ksyms_size base made.ids) new))) }
     ensures refused { IfErr result (λ e. IfSome (refusal_of e)
         (RefusesFinalized object.now table.now (kernel_has kernel.now))) }
 {

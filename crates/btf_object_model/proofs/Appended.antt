@@ -10,7 +10,7 @@ use Rattle.btf_rewrite_model.specs.declared.feature.FillPolicy.{FillPolicy}
 use Rattle.btf_rewrite_model.specs.declared.ksyms_ids.KsymsIds.{KsymsIds}
 use Rattle.btf_rewrite_model.specs.Ksyms.{appends_int, each_stepped, int_text}
 use Rattle.btf_rewrite_model.specs.Pass.{Layout, texts_below}
-use Rattle.btf_rewrite_model.specs.Rewritten.{begun, ended, old_count, pass_of, Rewritten}
+use Rattle.btf_rewrite_model.specs.Rewritten.{begun, with_zero_byte, old_count, pass_of, Rewritten}
 use Rattle.btf_rewrite_model.proofs.Kept.{by_table}
 
 begun_strings : (t : Table) (ids : Option KsymsIds) → (more : List ℕ) × ((begun t ids).strings ≡ t.strings ++ more)
@@ -24,6 +24,6 @@ pub texts_stay : (policy : FillPolicy) (old new : Table) (ids : Option KsymsIds)
     → (offset : ℕ) (text : List ℕ) → text_at old.strings offset ≡ Ok text → text_at new.strings offset ≡ Ok text
 texts_stay policy old new ids layout answers is offset text reads =
     let first = begun_strings old ids in
-    let added : List ℕ = flat_map ended (texts_below (pass_of policy old ids layout answers) (old_count (pass_of policy old ids layout answers))) in
+    let added : List ℕ = flat_map with_zero_byte (texts_below (pass_of policy old ids layout answers) (old_count (pass_of policy old ids layout answers))) in
     let strings_are : new.strings ≡ (old.strings ++ first.0) ++ added = ap (λ (t : Table). t.strings) is.table ∙ ap (λ xs. xs ++ added) first.1 in
     ap (λ xs. text_at xs offset) strings_are ∙ text_stays (old.strings ++ first.0) added offset text (text_stays old.strings first.0 offset text reads)

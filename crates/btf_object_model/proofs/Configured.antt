@@ -14,37 +14,37 @@ use Rattle.btf_model.proofs.Texts.{name_has_one}
 use Rattle.btf_rewrite_model.specs.Made.{Entry, entries, record_at, kind_at}
 use Rattle.btf_rewrite_model.specs.Pass.{Layout}
 use Rattle.btf_object_model.specs.Finalized.{kconfig_name, IsFinalized}
-use Rattle.btf_object_model.specs.Kconfig.{Value, Extern, text_of, extern_name, extern_of, total, with_externs, FindsText, FindsPlain, FindsResolved, FindsValue, FindsExternBy, FindsExtern, FindsExterns, LaysOut, ConfiguresIf, ConfiguresAt, IsConfigured}
+use Rattle.btf_object_model.specs.Kconfig.{ConfigValue, Extern, config_text, extern_name, extern_of, total, with_externs, FindsText, FindsPlain, FindsResolved, FindsValue, FindsExternBy, FindsExtern, FindsExterns, LaysOut, ConfiguresIf, ConfiguresAt, IsConfigured}
 use Rattle.btf_object_model.specs.SanitizedFinalized.{IsOpened}
 use Rattle.btf_object_model.proofs.Unique.{one_sorted, one_finalized}
 
 -- ---- one extern for an entry
 
-one_text : (t : Table) (tail : List ℕ) (a b : Option Value) → FindsText t tail a → FindsText t tail b → a ≡ b
-one_text t (element ∷ index ∷ count ∷ []) a b x y = x.2 ∙ ap (λ (r : Result ℕ Refusal). text_of t r count) (one_id t.records element x.0 y.0 x.1 y.1) ∙ sym y.2
+one_text : (t : Table) (tail : List ℕ) (a b : Option ConfigValue) → FindsText t tail a → FindsText t tail b → a ≡ b
+one_text t (element ∷ index ∷ count ∷ []) a b x y = x.2 ∙ ap (λ (r : Result ℕ Refusal). config_text t r count) (one_id t.records element x.0 y.0 x.1 y.1) ∙ sym y.2
 one_text t [] a b x y = x ∙ sym y
 one_text t (element ∷ []) a b x y = x ∙ sym y
 one_text t (element ∷ index ∷ []) a b x y = x ∙ sym y
 one_text t (element ∷ index ∷ count ∷ more ∷ rest) a b x y = x ∙ sym y
 
-one_plain : (t : Table) (k : Option Kind) (r : Record) (a b : Option Value) → FindsPlain t k r a → FindsPlain t k r b → a ≡ b
+one_plain : (t : Table) (k : Option Kind) (r : Record) (a b : Option ConfigValue) → FindsPlain t k r a → FindsPlain t k r b → a ≡ b
 one_plain t k r a b x y =
     elim k as (λ (k : Option Kind). FindsPlain t k r a → FindsPlain t k r b → a ≡ b) [
       | Some kinds.Array ↦ λ x y. one_text t r.tail a b x y
       | _ ↦ λ x y. x ∙ sym y
     ] x y
 
-one_by_id : (t : Table) (resolved : Result ℕ Refusal) (a b : Option Value) → FindsResolved t resolved a → FindsResolved t resolved b → a ≡ b
+one_by_id : (t : Table) (resolved : Result ℕ Refusal) (a b : Option ConfigValue) → FindsResolved t resolved a → FindsResolved t resolved b → a ≡ b
 one_by_id t (Ok id) a b x y = one_plain t (kind_at t id) (record_at t id) a b x y
 one_by_id t (Err refusal) a b x y = x ∙ sym y
 
-one_value : (t : Table) (type : ℕ) (a b : Option Value) → FindsValue t type a → FindsValue t type b → a ≡ b
+one_value : (t : Table) (type : ℕ) (a b : Option ConfigValue) → FindsValue t type a → FindsValue t type b → a ≡ b
 one_value t type a b x y = one_by_id t x.0 a b x.2 (subst (λ (r : Result ℕ Refusal). FindsResolved t r b) (one_id t.records type y.0 x.0 y.1 x.1) y.2)
 
 one_extern_by : (t : Table) (k : Option Kind) (r : Record) (e : Entry) (a b : Option Extern) → FindsExternBy t k r e a → FindsExternBy t k r e b → a ≡ b
 one_extern_by t k r e a b x y =
     elim k as (λ (k : Option Kind). FindsExternBy t k r e a → FindsExternBy t k r e b → a ≡ b) [
-      | Some kinds.Var ↦ λ x y. x.2 ∙ ap (λ (v : Option Value). extern_of e v (extern_name t.strings r.name)) (one_value t r.third x.0 y.0 x.1 y.1) ∙ sym y.2
+      | Some kinds.Var ↦ λ x y. x.2 ∙ ap (λ (v : Option ConfigValue). extern_of e v (extern_name t.strings r.name)) (one_value t r.third x.0 y.0 x.1 y.1) ∙ sym y.2
       | _ ↦ λ x y. x ∙ sym y
     ] x y
 

@@ -3,7 +3,7 @@ use Rattle.std.proofs.Common.{◌≡◌, ◌≢◌, ℕ, List, [], ◌∷◌, Op
 use Rattle.std.specs.Result.{result_ok}
 use Rattle.std.proofs.lemmas.Option.{none-some}
 use Rattle.btf_model.specs.declared.endianness.Endianness.{Endianness}
-use Rattle.btf_model.specs.Ext.{Header, Named, Ext, HaveNames, AreNamed, IsExt}
+use Rattle.btf_model.specs.Ext.{HeaderOfExt, Named, Ext, HaveNames, AreNamed, IsExt}
 use Rattle.btf_model.specs.Refusal.{Refusal, InvalidStringOffset}
 use Rattle.btf_model.specs.Text.{bytes_at, text_of, text_at, lossy}
 use Rattle.btf_model.proofs.Comparisons.{same_err}
@@ -33,7 +33,7 @@ module _ (old new : List ℕ) (stays : (offset : ℕ) (text : List ℕ) → text
 
   pub contents_ok : (order : Endianness) (bytes : List ℕ) (ext : Ext) → IsExt order bytes old (Ok ext) → IsExt order bytes new (Ok ext)
   contents_ok order bytes ext e =
-      let h : Header = e.0 in
+      let h : HeaderOfExt = e.0 in
       let func = e.2 in
       let line = func.2 in
       let core = line.2 in

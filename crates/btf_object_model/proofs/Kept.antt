@@ -18,7 +18,7 @@ use Rattle.btf_model.proofs.Texts.{text_stays}
 use Rattle.btf_model.specs.Table.{with_string, with_type}
 use Rattle.btf_elf_model.specs.Section.{name_at}
 use Rattle.btf_elf_model.specs.Object.{Object, IsObject, section_bytes, section_name}
-use Rattle.btf_elf_model.specs.Replaced.{ReplacesSection, moved, place}
+use Rattle.btf_elf_model.specs.Replaced.{ReplacesSection, moved_header, place}
 use Rattle.btf_elf_model.specs.declared.section_header.SectionHeader.{SectionHeader}
 use Rattle.btf_rewrite_model.specs.Ksyms.{appends_int, int_of_4, int_text}
 use Rattle.btf_rewrite_model.specs.Made.{c_int}
@@ -32,10 +32,10 @@ use Rattle.btf_rewrite_model.specs.declared.feature.FillPolicy.TheVariants.{Fill
 use Rattle.btf_rewrite_model.specs.declared.ksyms_ids.KsymsIds.{KsymsIds}
 use Rattle.btf_rewrite_model.specs.FeatureSet.{answers_of}
 use Rattle.btf_object_model.specs.Layout.{object_layout}
-use Rattle.btf_object_model.specs.Finalized.{placeholder_text, with_int, with_variable, has_functions, with_placeholder, with_placeholder_id, with_ksyms_size, sized}
+use Rattle.btf_object_model.specs.Finalized.{placeholder_text, with_int, with_variable, has_functions, with_placeholder, with_placeholder_id, with_ksyms_size, with_old_sizes}
 use Rattle.btf_object_model.specs.SanitizedFinalized.{RewritesFinalized, IsSanitizedFinalized}
 use Rattle.btf_object_model.specs.Laws.{HasSameContents, KeepsExt}
-use Rattle.btf_object_model.specs.Sanitized.{Target, HasSection, IsSanitized, index_of, table_name, ext_name}
+use Rattle.btf_object_model.specs.Sanitized.{Target, HasSection, IsSanitized, first_section_index, table_name, ext_name}
 use Rattle.btf_object_model.proofs.Appended.{texts_stay}
 use Rattle.btf_object_model.proofs.Exts.{contents_ok, contents_err}
 use Rattle.btf_object_model.proofs.Opened.{opened_others}
@@ -78,7 +78,7 @@ same_object bytes o p a b = a.object ∙ sym b.object
 same_section : (bytes name : List ℕ) (o p : Object) (i j : ℕ) (s t : SectionHeader) → HasSection bytes name o i s → HasSection bytes name p j t → (o ≡ p) × (i ≡ j) × (s ≡ t)
 same_section bytes name o p i j s t h k =
     let objects : o ≡ p = same_object bytes o p h.object k.object in
-    let first : index_of o name ≡ Some j = ap (λ (q : Object). index_of q name) objects ∙ k.first in
+    let first : first_section_index o name ≡ Some j = ap (λ (q : Object). first_section_index q name) objects ∙ k.first in
     let places : i ≡ j = same_Some i j (sym h.first ∙ first) in
     let header : slice_get o.sections i ≡ Some t = ap (λ (q : Object). slice_get q.sections i) objects ∙ ap (slice_get p.sections) places ∙ k.header in
     (objects, places, same_Some s t (sym h.header ∙ header))
@@ -105,13 +105,13 @@ module _ (bytes file : List ℕ) (z : IsRewritten bytes file) where
   new = z.replaced.0
 
   abbrev changed : SectionHeader
-  changed = moved (place old z.index z.header (length (canon z.new))) (length (canon z.new)) z.header
+  changed = moved_header (place old z.index z.header (length (canon z.new))) (length (canon z.new)) z.header
 
   abbrev written : ReplacesSection old z.index z.header (canon z.new) new
   written = z.replaced.2
 
   -- each name is at the same place
-  index_stays : (name : List ℕ) → index_of new name ≡ index_of old name
+  index_stays : (name : List ℕ) → first_section_index new name ≡ first_section_index old name
   index_stays name =
       ap (λ (names : Option (List ℕ)). position (λ (s : SectionHeader). bytes_eq (name_at (unwrap_or names []) s.name) name) new.sections) written.names
       ∙ ap (position (λ (s : SectionHeader). bytes_eq (section_name old s) name)) written.sections
@@ -214,7 +214,7 @@ placeholder_strings t ids =
 
 -- the strings of a table that is finalized are those of the old table, and more
 final_texts_stay : (has : BtfFeature → Bool) (o : Object) (bytes : List ℕ) (given base new : Table) (answers : List FeatureAnswer) (r : RewritesFinalized o bytes has given base new answers)
-    → (offset : ℕ) (text : List ℕ) → text_at given.strings offset ≡ Ok text → text_at (sized (with_ksyms_size base r.ids) new).strings offset ≡ Ok text
+    → (offset : ℕ) (text : List ℕ) → text_at given.strings offset ≡ Ok text → text_at (with_old_sizes (with_ksyms_size base r.ids) new).strings offset ≡ Ok text
 final_texts_stay has o bytes given base new answers r offset text reads =
     let more = placeholder_strings base r.ids in
     let same : base.strings ≡ given.strings = ap (λ (t : Table). t.strings) (opened_others (object_layout o) given base r.opened) in
@@ -229,7 +229,7 @@ finalized_keeps_ext bytes file has answers z = rewritten_keeps_ext bytes file (r
   header = z.header;
   section = z.section;
   old = z.old;
-  new = sized (with_ksyms_size z.base z.table.ids) z.new;
+  new = with_old_sizes (with_ksyms_size z.base z.table.ids) z.new;
   table = z.table.table;
   written = z.table.written;
   stays = final_texts_stay has z.object (section_bytes z.object z.header) z.old z.base z.new answers z.table;

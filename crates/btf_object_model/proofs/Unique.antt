@@ -11,9 +11,9 @@ use Rattle.std.proofs.lemmas.Option.{unwrap_or-slice_get}
 use Rattle.btf_model.specs.Record as kinds
 use Rattle.btf_model.specs.Record.{Kind, Record, unknown, vlen}
 use Rattle.btf_model.specs.Table.{Table}
-use Rattle.btf_rewrite_model.specs.Made.{Entry, record_at, kind_at, data_sec}
+use Rattle.btf_rewrite_model.specs.Made.{Entry, record_at, kind_at, made_data_sec}
 use Rattle.btf_rewrite_model.specs.Pass.{Layout}
-use Rattle.btf_object_model.specs.Finalized.{AreInOrder, final_size, final_entries, IsFinal, IsFinalized}
+use Rattle.btf_object_model.specs.Finalized.{AreInOrder, completed_size, final_entries, IsFinal, IsFinalized}
 
 suc_first : (k : ℕ) → suc k + 1 ≡ suc (k + 1)
 suc_first k = omega arith
@@ -116,7 +116,7 @@ same_order es xs ys a b = one_sorted _ (ranks_by nat_cmp_total (λ (e : Entry). 
 same_final : (layout : Layout) (t : Table) (k : Option Kind) (r new other : Record) → IsFinal layout t k r new → IsFinal layout t k r other → new ≡ other
 same_final layout t k r new other a b =
     elim k as (λ (k : Option Kind). IsFinal layout t k r new → IsFinal layout t k r other → new ≡ other) [
-      | Some kinds.DataSec ↦ λ a b. a.2 ∙ ap (data_sec r.name (final_size layout t r) (vlen r.info)) (same_order (final_entries layout t r) a.0 b.0 a.1 b.1) ∙ sym b.2
+      | Some kinds.DataSec ↦ λ a b. a.2 ∙ ap (made_data_sec r.name (completed_size layout t r) (vlen r.info)) (same_order (final_entries layout t r) a.0 b.0 a.1 b.1) ∙ sym b.2
       | _ ↦ λ a b. a ∙ sym b
     ] a b
 

@@ -4,7 +4,7 @@ use lib.Utf8.{encode}
 use Rattle.std.specs.Str.{is_utf8, chars}
 use Rattle.btf_elf_model.specs.declared.symbol.Symbol.{Symbol}
 use Rattle.btf_rewrite_model.specs.declared.feature.FeatureAnswer.{FeatureAnswer}
-use Rattle.btf_object_model.specs.Layout.{last_named, is_read}
+use Rattle.btf_object_model.specs.Layout.{last_named, is_read_symbol}
 use Rattle.btf_rewrite_model.specs.FeatureSet.{answers_of}
 use Rattle.btf_object_model.specs.Kernel.{version, is_up_to, has_by_version}
 
@@ -26,8 +26,8 @@ symbol_with binding kind =
 
 -- a local symbol of no type and a local variable; an undefined global symbol of no type and a weak function
 symbols_that_are_read :
-    (is_read (symbol_with 0 0) ≡ false) × (is_read (symbol_with 0 1) ≡ true) × (is_read (symbol_with 1 0) ≡ true)
-    × (is_read (symbol_with 2 2) ≡ true)
+    (is_read_symbol (symbol_with 0 0) ≡ false) × (is_read_symbol (symbol_with 0 1) ≡ true) × (is_read_symbol (symbol_with 1 0) ≡ true)
+    × (is_read_symbol (symbol_with 2 2) ≡ true)
 unfolding symbol_with
 symbols_that_are_read = (refl, refl, refl, refl)
 

@@ -15,8 +15,8 @@ use Rattle.btf_model.specs.Refusal.{Refusal}
 use Rattle.btf_model.specs.Table.{Table, type_bytes, with_string, with_type}
 use Rattle.btf_model.specs.Text.{text_at}
 use Rattle.btf_rewrite_model.specs.Checks.{in_a_word, first_fault, has_room, fits, record_len}
-use Rattle.btf_rewrite_model.specs.Ksyms.{appends_int, int_of_4, int_text, is_func, symbols, placeholder_checks}
-use Rattle.btf_rewrite_model.specs.Made.{Entry, entries, record_at, kind_at, table_ids, is_static, c_int, struct, data_sec}
+use Rattle.btf_rewrite_model.specs.Ksyms.{appends_int, int_of_4, int_text, is_func, ksyms_entries, placeholder_checks}
+use Rattle.btf_rewrite_model.specs.Made.{Entry, entries, record_at, kind_at, table_ids, is_static, c_int, struct, made_data_sec}
 use Rattle.btf_rewrite_model.specs.Pass.{Layout}
 use Rattle.btf_rewrite_model.specs.declared.ksyms_ids.KsymsIds.{KsymsIds}
 use Rattle.btf_object_model.specs.Ksyms.{ksyms_name}
@@ -38,9 +38,9 @@ if_positive (Some size) = if size == 0 then None else Some size
 if_positive None = None
 
 -- The size of the section of a name, if it is known, has 32 bits, and is not 0. Source: `find_elf_sec_sz`.
-abbrev pub section_size : Layout → Result (List ℕ) Refusal → Option ℕ
-section_size layout (Ok name) = if is_of_externs name then None else if_positive (in_a_word (layout.sections name))
-section_size layout (Err refusal) = None
+abbrev pub known_section_size : Layout → Result (List ℕ) Refusal → Option ℕ
+known_section_size layout (Ok name) = if is_of_externs name then None else if_positive (in_a_word (layout.sections name))
+known_section_size layout (Err refusal) = None
 
 -- A Static or an Extern variable retains its offset. Source: `btf_fixup_datasec`.
 abbrev pub retains_offset : Record → Bool
@@ -62,8 +62,8 @@ abbrev pub entry_offset : Layout → Table → Entry → Option ℕ
 entry_offset layout t e = offset_by layout t (kind_at t e.type) (record_at t e.type) e.offset
 
 -- the entry at its offset
-abbrev pub placed : Layout → Table → Entry → Entry
-placed layout t e = record e { offset = unwrap_or (entry_offset layout t e) e.offset }
+abbrev pub entry_at_offset : Layout → Table → Entry → Entry
+entry_at_offset layout t e = record e { offset = unwrap_or (entry_offset layout t e) e.offset }
 
 -- ---- DATASECs
 
@@ -71,18 +71,18 @@ placed layout t e = record e { offset = unwrap_or (entry_offset layout t e) e.of
 -- it stays as it is, and the rewrite reports what is unknown.
 abbrev pub is_completed : Layout → Table → Record → Bool
 is_completed layout t r =
-    (r.third == 0) && is_some (section_size layout (text_at t.strings r.name))
+    (r.third == 0) && is_some (known_section_size layout (text_at t.strings r.name))
     && list_all (λ e. is_some (entry_offset layout t e)) (entries r.tail)
 
 -- the size of a DATASEC: the size of its section if it is completed, else its own size
-abbrev pub final_size : Layout → Table → Record → ℕ
-final_size layout t r =
-    if is_completed layout t r then unwrap_or (section_size layout (text_at t.strings r.name)) 0 else r.third
+abbrev pub completed_size : Layout → Table → Record → ℕ
+completed_size layout t r =
+    if is_completed layout t r then unwrap_or (known_section_size layout (text_at t.strings r.name)) 0 else r.third
 
 -- the entries of a DATASEC: at the offsets of their variables if it is completed, else unchanged
 abbrev pub final_entries : Layout → Table → Record → List Entry
 final_entries layout t r =
-    if is_completed layout t r then map (placed layout t) (entries r.tail) else entries r.tail
+    if is_completed layout t r then map (entry_at_offset layout t) (entries r.tail) else entries r.tail
 
 -- The same entries by rising offset; those with the same offset retain their order. Source: the kernel's
 -- `btf_datasec_check_meta` refuses an entry that begins before the end of the previous one ("Invalid offset").
@@ -95,7 +95,7 @@ pub record AreInOrder (es sorted : List Entry) : Type 0 where
 abbrev pub IsFinal : Layout → Table → Option Kind → Record → Record → Type 0
 IsFinal layout t (Some kinds.DataSec) r new =
     (es : List Entry) × AreInOrder (final_entries layout t r) es
-    × (new ≡ data_sec r.name (final_size layout t r) (vlen r.info) es)
+    × (new ≡ made_data_sec r.name (completed_size layout t r) (vlen r.info) es)
 IsFinal layout t k r new = new ≡ r
 
 -- The new table is the old one, finalized from an object of this layout: each record becomes its final record, and
@@ -129,7 +129,7 @@ with_variable type t = with_type (placeholder (length t.strings) type) None (wit
 
 -- A function is among the entries of `.ksyms`, if the table has this DATASEC.
 abbrev pub has_functions : Table → Option KsymsIds → Bool
-has_functions t (Some ids) = list_any (λ e. is_func (kind_at t e.type)) (symbols t ids)
+has_functions t (Some ids) = list_any (λ e. is_func (kind_at t e.type)) (ksyms_entries t ids)
 has_functions t None = false
 
 -- the table with the placeholder, if it is needed; its type is the first INT of 4 bytes, or the INT that is appended
@@ -156,16 +156,16 @@ abbrev pub with_ksyms_size : Table → Option KsymsIds → Table
 with_ksyms_size t (Some ids) =
     record t {
       records = set t.records ids.datasec_id
-          (record (record_at t ids.datasec_id) { third = 4 * length (symbols t ids) });
+          (record (record_at t ids.datasec_id) { third = 4 * length (ksyms_entries t ids) });
     }
 with_ksyms_size t None = t
 
 -- ---- STRUCTs that were DATASECs
 
 -- the kind is DATASEC
-abbrev pub is_data_sec : Option Kind → Bool
-is_data_sec (Some kinds.DataSec) = true
-is_data_sec k = false
+abbrev pub has_data_sec_kind : Option Kind → Bool
+has_data_sec_kind (Some kinds.DataSec) = true
+has_data_sec_kind k = false
 
 -- the kind is STRUCT
 abbrev pub is_struct : Option Kind → Bool
@@ -177,10 +177,10 @@ is_struct k = false
 -- its struct size").
 abbrev pub sized_record : Record → Record → Record
 sized_record old new =
-    if is_data_sec (kind_of old.info) && is_struct (kind_of new.info)
+    if has_data_sec_kind (kind_of old.info) && is_struct (kind_of new.info)
     then struct new.name old.third (vlen new.info) new.tail else new
 
 -- the rewritten table with the sizes that the DATASECs of the table before the rewrite have
-abbrev pub sized : Table → Table → Table
-sized old new =
+abbrev pub with_old_sizes : Table → Table → Table
+with_old_sizes old new =
     record new { records = map (λ id. sized_record (record_at old id) (record_at new id)) (table_ids new) }

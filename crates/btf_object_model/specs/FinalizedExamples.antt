@@ -4,11 +4,11 @@ use Rattle.bstr.specs.Utf8.{pieces_from}
 use lib.Utf8.{encode}
 use Rattle.btf_model.specs.Record.{Record}
 use Rattle.btf_model.specs.Table.{Table}
-use Rattle.btf_rewrite_model.specs.Made.{Entry, record_at, c_int, struct, data_sec}
+use Rattle.btf_rewrite_model.specs.Made.{Entry, record_at, c_int, struct, made_data_sec}
 use Rattle.btf_rewrite_model.specs.Pass.{Layout}
 use Rattle.btf_rewrite_model.specs.RewriteExamples.{no_layout, only, named_table, int}
 use Rattle.btf_rewrite_model.specs.declared.ksyms_ids.KsymsIds.{KsymsIds}
-use Rattle.btf_object_model.specs.Finalized.{entry_offset, is_completed, final_size, final_entries, placeholder, with_placeholder, with_placeholder_id, placeholder_fault, sized_record}
+use Rattle.btf_object_model.specs.Finalized.{entry_offset, is_completed, completed_size, final_entries, placeholder, with_placeholder, with_placeholder_id, placeholder_fault, sized_record}
 
 -- a VAR of the type of id 1
 var : ℕ → ℕ → Record
@@ -22,7 +22,7 @@ entry type offset size = record { type = type; offset = offset; size = size }
 compiled : List ℕ → Table
 compiled section =
     named_table (codes "int" ∷ codes "count" ∷ codes "last" ∷ section ∷ [])
-    (int 1 ∷ var 5 1 ∷ var 11 0 ∷ data_sec 16 0 2 (entry 2 0 4 ∷ entry 3 12 4 ∷ []) ∷ [])
+    (int 1 ∷ var 5 1 ∷ var 11 0 ∷ made_data_sec 16 0 2 (entry 2 0 4 ∷ entry 3 12 4 ∷ []) ∷ [])
 
 -- the section of a name has 16 bytes, and `count` is at 8
 layout : List ℕ → Layout
@@ -30,7 +30,7 @@ layout section = record { sections = only section 16; symbols = only (codes "cou
 
 -- it gets the size of its section, and each entry its offset; a Static variable retains its offset
 completed_section :
-    (final_size (layout (codes ".bss")) (compiled (codes ".bss")) (record_at (compiled (codes ".bss")) 4) ≡ 16)
+    (completed_size (layout (codes ".bss")) (compiled (codes ".bss")) (record_at (compiled (codes ".bss")) 4) ≡ 16)
     × (final_entries (layout (codes ".bss")) (compiled (codes ".bss")) (record_at (compiled (codes ".bss")) 4)
     ≡ entry 2 8 4 ∷ entry 3 12 4 ∷ [])
 unfolding compiled layout var entry pieces_from encode
@@ -60,7 +60,7 @@ with_function : Table
 with_function =
     named_table (codes "lock" ∷ codes ".ksyms" ∷ [])
     (record { name = 0; info = 13 * 2 ^ 24; third = 0; tail = [] }
-    ∷ record { name = 1; info = 12 * 2 ^ 24 + 2; third = 1; tail = [] } ∷ data_sec 6 0 1 (entry 2 0 0 ∷ []) ∷ [])
+    ∷ record { name = 1; info = 12 * 2 ^ 24 + 2; third = 1; tail = [] } ∷ made_data_sec 6 0 1 (entry 2 0 0 ∷ []) ∷ [])
 
 ksyms : KsymsIds
 ksyms = record { datasec_id = 3; placeholder_id = None }
@@ -85,7 +85,7 @@ no_placeholder = refl
 
 -- a STRUCT of two members that was a DATASEC of 16 bytes gets this size; a STRUCT that was one already retains its size
 sizes_of_structs :
-    (sized_record (data_sec 16 16 2 (entry 2 8 4 ∷ entry 3 12 4 ∷ [])) (struct 21 2 2 (5 ∷ 2 ∷ 64 ∷ 11 ∷ 3 ∷ 96 ∷ []))
+    (sized_record (made_data_sec 16 16 2 (entry 2 8 4 ∷ entry 3 12 4 ∷ [])) (struct 21 2 2 (5 ∷ 2 ∷ 64 ∷ 11 ∷ 3 ∷ 96 ∷ []))
     ≡ struct 21 16 2 (5 ∷ 2 ∷ 64 ∷ 11 ∷ 3 ∷ 96 ∷ []))
     × (sized_record (struct 1 16 0 []) (struct 1 4 0 []) ≡ struct 1 4 0 [])
 unfolding entry

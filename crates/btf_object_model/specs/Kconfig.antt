@@ -15,58 +15,58 @@ use Rattle.btf_model.specs.Refusal.{Refusal}
 use Rattle.btf_model.specs.Table.{Table}
 use Rattle.btf_model.specs.Text.{FindsName, bytes_at}
 use Rattle.btf_model.specs.Walk.{Resolves}
-use Rattle.btf_rewrite_model.specs.Made.{Entry, entries, record_at, kind_at, data_sec}
+use Rattle.btf_rewrite_model.specs.Made.{Entry, entries, record_at, kind_at, made_data_sec}
 use Rattle.btf_object_model.specs.Finalized.{kconfig_name}
 use Rattle.btf_object_model.specs.Layout.{name_limit}
 
 -- ---- values
 
 -- a value of the configuration in memory: its bytes, and the alignment of its offset in bytes
-pub record Value : Type 0 where
+pub record ConfigValue : Type 0 where
   pub size : ℕ
   pub alignment : ℕ
 
 -- A number of 1, 2, 4 or 8 bytes is aligned to its size.
-abbrev pub number : ℕ → Option Value
-number size =
+abbrev pub config_number : ℕ → Option ConfigValue
+config_number size =
     if size == 1 || size == 2 || size == 4 || size == 8 then Some (record { size = size; alignment = size }) else None
 
 -- the value of a type that is no array: an INT or an enumeration is a number
-abbrev pub plain_value : Option Kind → Record → Option Value
-plain_value (Some kinds.Int) r = number r.third
-plain_value (Some kinds.Enum) r = number r.third
-plain_value (Some kinds.Enum64) r = number r.third
+abbrev pub plain_value : Option Kind → Record → Option ConfigValue
+plain_value (Some kinds.Int) r = config_number r.third
+plain_value (Some kinds.Enum) r = config_number r.third
+plain_value (Some kinds.Enum64) r = config_number r.third
 plain_value k r = None
 
 -- the value of an array of this many elements, by the type of an element: INTs of one byte are a text
-abbrev pub text_value : Option Kind → Record → ℕ → Option Value
+abbrev pub text_value : Option Kind → Record → ℕ → Option ConfigValue
 text_value (Some kinds.Int) r count =
     if (r.third == 1) && not (count == 0) then Some (record { size = count; alignment = 1 }) else None
 text_value k r count = None
 
 -- the same by what the type of the elements resolves to
-abbrev pub text_of : Table → Result ℕ Refusal → ℕ → Option Value
-text_of t (Ok element) count = text_value (kind_at t element) (record_at t element) count
-text_of t (Err refusal) count = None
+abbrev pub config_text : Table → Result ℕ Refusal → ℕ → Option ConfigValue
+config_text t (Ok element) count = text_value (kind_at t element) (record_at t element) count
+config_text t (Err refusal) count = None
 
 -- The value of an ARRAY, by its words: the type of its elements, the type of its index, the number of elements.
-abbrev pub FindsText : Table → List ℕ → Option Value → Type 0
+abbrev pub FindsText : Table → List ℕ → Option ConfigValue → Type 0
 FindsText t (element ∷ index ∷ count ∷ []) found =
-    (resolved : Result ℕ Refusal) × Resolves t.records element resolved × (found ≡ text_of t resolved count)
+    (resolved : Result ℕ Refusal) × Resolves t.records element resolved × (found ≡ config_text t resolved count)
 FindsText t tail found = found ≡ None
 
 -- the value of a type that is no modifier, if it has one
-abbrev pub FindsPlain : Table → Option Kind → Record → Option Value → Type 0
+abbrev pub FindsPlain : Table → Option Kind → Record → Option ConfigValue → Type 0
 FindsPlain t (Some kinds.Array) r found = FindsText t r.tail found
 FindsPlain t k r found = found ≡ plain_value k r
 
 -- the same by what a type resolves to
-abbrev pub FindsResolved : Table → Result ℕ Refusal → Option Value → Type 0
+abbrev pub FindsResolved : Table → Result ℕ Refusal → Option ConfigValue → Type 0
 FindsResolved t (Ok id) found = FindsPlain t (kind_at t id) (record_at t id) found
 FindsResolved t (Err refusal) found = found ≡ None
 
 -- The value of a type, after its modifiers, if it has one.
-abbrev pub FindsValue : Table → ℕ → Option Value → Type 0
+abbrev pub FindsValue : Table → ℕ → Option ConfigValue → Type 0
 FindsValue t type found =
     (resolved : Result ℕ Refusal) × Resolves t.records type resolved × FindsResolved t resolved found
 
@@ -75,21 +75,21 @@ FindsValue t type found =
 -- a variable of `.kconfig`: its entry, its value, and its name
 pub record Extern : Type 0 where
   pub entry : Entry
-  pub value : Value
+  pub value : ConfigValue
   pub name : List ℕ
 
 -- The name of a variable, if it has fewer bytes than the limit, above which no kernel accepts a name.
 abbrev pub extern_name : List ℕ → ℕ → Option (List ℕ)
 extern_name strings offset = bytes_at (take name_limit (drop offset strings)) 0
 
-abbrev pub extern_of : Entry → Option Value → Option (List ℕ) → Option Extern
+abbrev pub extern_of : Entry → Option ConfigValue → Option (List ℕ) → Option Extern
 extern_of e (Some value) (Some name) = Some (record { entry = e; value = value; name = name })
 extern_of e value name = None
 
 -- the extern of an entry by its type, which has to be a VAR
 abbrev pub FindsExternBy : Table → Option Kind → Record → Entry → Option Extern → Type 0
 FindsExternBy t (Some kinds.Var) r e found =
-    (value : Option Value) × FindsValue t r.third value × (found ≡ extern_of e value (extern_name t.strings r.name))
+    (value : Option ConfigValue) × FindsValue t r.third value × (found ≡ extern_of e value (extern_name t.strings r.name))
 FindsExternBy t k r e found = found ≡ None
 
 -- The extern of an entry, if its value and its name are known.
@@ -118,9 +118,9 @@ total [] = 0
 total (x ∷ xs) = x.value.size + total xs
 
 -- the entries of externs, one after another from an offset on
-abbrev pub laid_out : ℕ → List Extern → List Entry
-laid_out at [] = []
-laid_out at (x ∷ xs) = record x.entry { offset = at } ∷ laid_out (at + x.value.size) xs
+abbrev pub externs_laid_out : ℕ → List Extern → List Entry
+externs_laid_out at [] = []
+externs_laid_out at (x ∷ xs) = record x.entry { offset = at } ∷ externs_laid_out (at + x.value.size) xs
 
 -- the table with another record of an id
 abbrev pub with_record : Table → ℕ → Record → Table
@@ -141,7 +141,7 @@ with_globals (id ∷ ids) t = with_globals ids (with_record t id (made_global (k
 abbrev pub with_externs : Table → ℕ → List Extern → Table
 with_externs t id xs =
     with_record (with_globals (map (λ (x : Extern). x.entry.type) xs) t) id
-    (data_sec (record_at t id).name (total xs) (vlen (record_at t id).info) (laid_out 0 xs))
+    (made_data_sec (record_at t id).name (total xs) (vlen (record_at t id).info) (externs_laid_out 0 xs))
 
 -- The DATASEC of an id has these externs in order. The table stays as it is if their total size exceeds 32 bits.
 pub record IsLaidOut (t : Table) (id : ℕ) (xs : List Extern) (new : Table) : Type 0 where

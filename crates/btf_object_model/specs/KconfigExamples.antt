@@ -8,7 +8,7 @@ use Rattle.btf_model.specs.Record.{Record}
 use Rattle.btf_model.specs.Table.{Table}
 use Rattle.btf_rewrite_model.specs.Made.{record_at}
 use Rattle.btf_rewrite_model.specs.RewriteExamples.{named_table, int}
-use Rattle.btf_object_model.specs.Kconfig.{Extern, plain_value, text_value, extern_name, extern_cmp, total, laid_out, with_globals}
+use Rattle.btf_object_model.specs.Kconfig.{Extern, plain_value, text_value, extern_name, extern_cmp, total, externs_laid_out, with_globals}
 
 -- an INT of this size, without a name
 int_of : ℕ → Record
@@ -45,7 +45,7 @@ order = (refl, refl, refl)
 
 -- three externs of 8, 4 and 20 bytes are at 0, 8 and 12, and end at 32
 offsets :
-    (laid_out 0 (extern (codes "a") 5 8 8 ∷ extern (codes "b") 6 4 4 ∷ extern (codes "c") 7 20 1 ∷ [])
+    (externs_laid_out 0 (extern (codes "a") 5 8 8 ∷ extern (codes "b") 6 4 4 ∷ extern (codes "c") 7 20 1 ∷ [])
     ≡ record { type = 5; offset = 0; size = 8 } ∷ record { type = 6; offset = 8; size = 4 }
     ∷ record { type = 7; offset = 12; size = 20 } ∷ [])
     × (total (extern (codes "a") 5 8 8 ∷ extern (codes "b") 6 4 4 ∷ extern (codes "c") 7 20 1 ∷ []) ≡ 32)

@@ -29,8 +29,8 @@ last_named name_of number all name =
     else None
 
 -- the size of the last section of a name
-abbrev pub size_of : Object → List ℕ → Option ℕ
-size_of o name = last_named (section_name o) (λ (s : SectionHeader). s.size) o.sections name
+abbrev pub last_section_size : Object → List ℕ → Option ℕ
+last_section_size o name = last_named (section_name o) (λ (s : SectionHeader). s.size) o.sections name
 
 -- the index of the last section of a name
 abbrev pub last_index_of : Object → List ℕ → Option ℕ
@@ -48,13 +48,13 @@ stt_object = 1
 
 -- The offset of a symbol is read if the symbol is not local, or if it is a variable. This includes undefined symbols,
 -- which have the value 0.
-abbrev pub is_read : Symbol → Bool
-is_read s = not (s.binding == stb_local) || (s.kind == stt_object)
+abbrev pub is_read_symbol : Symbol → Bool
+is_read_symbol s = not (s.binding == stb_local) || (s.kind == stt_object)
 
 -- the value of the last of these symbols that has a name
 abbrev pub offset_of : Object → List ℕ → Option ℕ
-offset_of o name = last_named (symbol_name o) (λ (s : Symbol). s.value) (filter is_read (symbols o)) name
+offset_of o name = last_named (symbol_name o) (λ (s : Symbol). s.value) (filter is_read_symbol (symbols o)) name
 
 -- the layout that a rewrite reads from an object
 abbrev pub object_layout : Object → Layout
-object_layout o = record { sections = size_of o; symbols = offset_of o }
+object_layout o = record { sections = last_section_size o; symbols = offset_of o }

@@ -29,13 +29,13 @@ abbrev pub ext_name : List ℕ
 ext_name = codes ".BTF.ext"
 
 -- the index of the first section of a name
-abbrev pub index_of : Object → List ℕ → Option ℕ
-index_of o name = position (λ s. bytes_eq (section_name o s) name) o.sections
+abbrev pub first_section_index : Object → List ℕ → Option ℕ
+first_section_index o name = position (λ s. bytes_eq (section_name o s) name) o.sections
 
 -- The bytes are an object; the first section of a name has this index and this header.
 pub record HasSection (bytes name : List ℕ) (o : Object) (index : ℕ) (s : SectionHeader) : Type 0 where
   pub object : IsObject bytes o
-  pub first : index_of o name ≡ Some index
+  pub first : first_section_index o name ≡ Some index
   pub header : slice_get o.sections index ≡ Some s
 
 -- The target of a rewrite: the features of the kernel, the policy for DATASECs that have a size and no entries, and the

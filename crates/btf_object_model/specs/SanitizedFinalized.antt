@@ -14,7 +14,7 @@ use Rattle.btf_rewrite_model.specs.declared.feature.BtfFeature.{BtfFeature}
 use Rattle.btf_rewrite_model.specs.declared.feature.FeatureAnswer.{FeatureAnswer}
 use Rattle.btf_rewrite_model.specs.declared.feature.FillPolicy.TheVariants.{FillSized}
 use Rattle.btf_rewrite_model.specs.declared.ksyms_ids.KsymsIds.{KsymsIds}
-use Rattle.btf_object_model.specs.Finalized.{IsFinalized, placeholder_fault, with_placeholder, with_placeholder_id, with_ksyms_size, sized}
+use Rattle.btf_object_model.specs.Finalized.{IsFinalized, placeholder_fault, with_placeholder, with_placeholder_id, with_ksyms_size, with_old_sizes}
 use Rattle.btf_object_model.specs.Kconfig.{IsConfigured}
 use Rattle.btf_rewrite_model.specs.FeatureSet.{answers_of}
 use Rattle.btf_object_model.specs.Ksyms.{FindsKsyms}
@@ -45,8 +45,8 @@ pub record RewritesFinalized (o : Object) (bytes : List ℕ) (has : BtfFeature �
   pub answers_are : AreAnswers (kernel_target has)
       (Asked (pass_of FillSized (with_placeholder base ids) (with_placeholder_id base ids) (object_layout o) answers))
       answers
-  pub written : IsTable o.header.order (canon (sized (with_ksyms_size base ids) new))
-      (strip (sized (with_ksyms_size base ids) new))
+  pub written : IsTable o.header.order (canon (with_old_sizes (with_ksyms_size base ids) new))
+      (strip (with_old_sizes (with_ksyms_size base ids) new))
 
 -- The bytes of a section represent no table, or the search for the ids of `.ksyms` in the opened table fails, or
 -- the placeholder does not fit, or the rewrite is refused.
@@ -72,4 +72,4 @@ pub record IsSanitizedFinalized (bytes : List ℕ) (has : BtfFeature → Bool) (
   pub new : Table
   pub table : RewritesFinalized object (section_bytes object header) has old base new answers
   pub replaced : (new_object : Object) × IsObject file new_object
-      × ReplacesSection object index header (canon (sized (with_ksyms_size base table.ids) new)) new_object
+      × ReplacesSection object index header (canon (with_old_sizes (with_ksyms_size base table.ids) new)) new_object

@@ -9,7 +9,7 @@ use Rattle.btf_order.specs.declared.frame.Link.{Link}
 use Rattle.btf_order.specs.declared.shape.Node.{Node}
 use Rattle.btf_order.specs.declared.shape.Shape.{Shape}
 use Rattle.btf_order.specs.declared.shape.Shape.TheVariants.{Prototype}
-use Rattle.btf_order.specs.Frame.{IsCovered, AreCovered, Covers, LinkIs, IsFrame, is_done}
+use Rattle.btf_order.specs.Frame.{IsCovered, AreCovered, Covers, LinkIs, IsWalkFrame, is_done}
 use Rattle.btf_order.specs.Shape.{Refers, IsShape}
 
 -- ---- truth values
@@ -42,7 +42,7 @@ module _ (records : List Record) where
   pub covered_more : (before after : List ℕ) (a : ℕ) → ((id : ℕ) → Contains before id → Contains after id) → IsCovered records before a → IsCovered records after a
   covered_more before after a more covered = (λ d. more a (covered.0 d), λ b needs. more b (covered.1 b needs))
 
-  pub frame_more : (before after : List ℕ) (f : Frame) → ((id : ℕ) → Contains before id → Contains after id) → IsFrame records before f → IsFrame records after f
+  pub frame_more : (before after : List ℕ) (f : Frame) → ((id : ℕ) → Contains before id → Contains after id) → IsWalkFrame records before f → IsWalkFrame records after f
   frame_more before after f more frame covers i b lt e = covered_more before after b more (frame covers i b lt e)
 
   -- ---- types that have nothing by value, and types whose types are covered
@@ -66,7 +66,7 @@ module _ (records : List Record) where
     by b (HasByValue.through _ c _ here rest) declared = (at c here).1 b (rest, declared)
 
   -- what a frame gives after its last type
-  pub frame_needs : (ids : List ℕ) (f : Frame) → IsFrame records ids f → length (value_types_in records f.node.id) ≤ f.next → is_done f ≡ true → (b : ℕ) → NeedsComplete records f.node.id b → Contains ids b
+  pub frame_needs : (ids : List ℕ) (f : Frame) → IsWalkFrame records ids f → length (value_types_in records f.node.id) ≤ f.next → is_done f ≡ true → (b : ℕ) → NeedsComplete records f.node.id b → Contains ids b
   frame_needs ids f frame all done = needs_covered ids f.node.id f.next all (frame (done_cases f.node.through_pointer f.all_strong done))
 
   -- ---- the next type of a frame
@@ -74,8 +74,8 @@ module _ (records : List Record) where
   by_place : (i n : ℕ) → i < n + 1 → (i < n) ⊎ (i ≡ n)
   by_place i n lt = grind arith
 
-  pub frame_after : (ids : List ℕ) (f g : Frame) (node : Node) (link : Link) → IsFrame records ids f → Refers (value_types_in records f.node.id) f.node.through_pointer f.next node → LinkIs records ids node link
-      → g.node ≡ f.node → g.next ≡ f.next + 1 → g.all_strong ≡ (f.all_strong && link.is_strong) → IsFrame records ids g
+  pub frame_after : (ids : List ℕ) (f g : Frame) (node : Node) (link : Link) → IsWalkFrame records ids f → Refers (value_types_in records f.node.id) f.node.through_pointer f.next node → LinkIs records ids node link
+      → g.node ≡ f.node → g.next ≡ f.next + 1 → g.all_strong ≡ (f.all_strong && link.is_strong) → IsWalkFrame records ids g
   frame_after ids f g node link frame refers is_link same next all covers i b lt e =
       by (by_place i f.next (subst (λ (n : ℕ). i < n) next lt)) refers.1 where
         types : List ℕ
@@ -114,7 +114,7 @@ module _ (records : List Record) where
 
   -- ---- frames and types of the table
 
-  pub new_frame : (ids : List ℕ) (f : Frame) → f.next ≡ 0 → IsFrame records ids f
+  pub new_frame : (ids : List ℕ) (f : Frame) → f.next ≡ 0 → IsWalkFrame records ids f
   new_frame ids f next covers i b lt e = absurd (no_index i (subst (λ (n : ℕ). i < n) next lt)) where
     no_index : (i : ℕ) → i < 0 → ⊥
     no_index i h = omega arith

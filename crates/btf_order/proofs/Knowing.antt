@@ -14,7 +14,7 @@ use Rattle.btf_order.specs.declared.progress.Visit.{Visit}
 use Rattle.btf_order.specs.declared.progress.Visit.TheVariants.{Returns, Opens}
 use Rattle.btf_order.specs.declared.shape.Node.{Node}
 use Rattle.btf_order.specs.Frame.{IsCovered}
-use Rattle.btf_order.specs.Progress.{IsBehind, is_complete_mark, is_complete_in, Knows, Grows, IsSameOrder, VisitIs, IsMarked, IsListed, HasLeft, mark_weight, walks_weight, left_over}
+use Rattle.btf_order.specs.Progress.{IsBehind, is_complete_mark, is_complete_in, KnowsOrder, Grows, IsSameOrder, VisitIs, IsMarked, IsListed, HasLeft, mark_weight, walks_weight, left_over}
 use Rattle.btf_order.proofs.Covers.{true_not_false, covered_more}
 use Rattle.btf_order.proofs.Lists.{set_here, set_other, same_or_not}
 
@@ -72,8 +72,8 @@ pub grows_trans : (p q r : Progress) → Grows p q → Grows q r → Grows p r
 grows_trans p q r first second = record { complete = λ id e. second.complete id (first.complete id e); ids = λ id h. second.ids id (first.ids id h) }
 
 module _ (records : List Record) where
-  pub knows_from : (p q : Progress) → Knows records p → length q.marks.items ≡ length p.marks.items → length q.walks.items ≡ length p.walks.items → IsSameOrder p q
-      → ((id : ℕ) → is_complete_in q.marks.items id ≡ true → IsCovered records p.ids.items id) → Knows records q
+  pub knows_from : (p q : Progress) → KnowsOrder records p → length q.marks.items ≡ length p.marks.items → length q.walks.items ≡ length p.walks.items → IsSameOrder p q
+      → ((id : ℕ) → is_complete_in q.marks.items id ≡ true → IsCovered records p.ids.items id) → KnowsOrder records q
   knows_from p q knows marks walks same complete = record {
     marks = marks ∙ knows.marks;
     walks = walks ∙ knows.walks;
@@ -90,8 +90,8 @@ module _ (records : List Record) where
   same_ids p q same id h = subst (λ v. Contains v.items id) (sym same.ids) h
 
   -- a type that was opened by its mark
-  module _ (p q : Progress) (knows : Knows records p) (id : ℕ) where
-    pub marked_knows : (v : Visit) → IsMarked p q id v → Knows records q
+  module _ (p q : Progress) (knows : KnowsOrder records p) (id : ℕ) where
+    pub marked_knows : (v : Visit) → IsMarked p q id v → KnowsOrder records q
     marked_knows (Returns link) h = absurd h
     marked_knows (Opens node) (is, new, marks, walks, same) =
         knows_from p q knows (ap (λ xs. length xs) marks ∙ length-set p.marks.items id Open) (ap (λ v. length v.items) walks) same
@@ -116,9 +116,9 @@ module _ (records : List Record) where
     }
 
   -- a type that was opened by its walks, or waits for a leaf
-  module _ (p q : Progress) (knows : Knows records p) (id : ℕ) where
-    pub behind_knows : (v : Visit) → IsBehind p q id v → Knows records q
-    behind_knows (Returns link) (same, weak) = subst (Knows records) (sym same) knows
+  module _ (p q : Progress) (knows : KnowsOrder records p) (id : ℕ) where
+    pub behind_knows : (v : Visit) → IsBehind p q id v → KnowsOrder records q
+    behind_knows (Returns link) (same, weak) = subst (KnowsOrder records) (sym same) knows
     behind_knows (Opens node) (is, marks, walks, less, same) =
         knows_from p q knows (ap (λ v. length v.items) marks) walks same
         (λ j e. knows.complete j (ap (λ v. is_complete_in v.items j) (sym marks) ∙ e))
@@ -131,7 +131,7 @@ module _ (records : List Record) where
     }
 
   -- a type that is in its place in the order
-  module _ (p q : Progress) (knows : Knows records p) (id : ℕ) (may : IsTrue (may_be_declared records id)) (needs : (b : ℕ) → NeedsComplete records id b → Contains p.ids.items b) where
+  module _ (p q : Progress) (knows : KnowsOrder records p) (id : ℕ) (may : IsTrue (may_be_declared records id)) (needs : (b : ℕ) → NeedsComplete records id b → Contains p.ids.items b) where
     longer : (ids : List ℕ) (x : ℕ) → Contains ids x → Contains (ids ++ id ∷ []) x
     longer ids x h = Contains-append_left ids (id ∷ []) x h
 
@@ -147,8 +147,8 @@ module _ (records : List Record) where
     listed_covered (inr (absent, ids, listed, marks, walks, referenced)) =
         subst (λ xs. IsCovered records xs id) (sym ids) (λ d. Contains-push p.ids.items id, λ b h. longer p.ids.items b (needs b h))
 
-    pub listed_knows : IsListed p q id → Knows records q
-    listed_knows (inl (here, same)) = subst (Knows records) (sym same) knows
+    pub listed_knows : IsListed p q id → KnowsOrder records q
+    listed_knows (inl (here, same)) = subst (KnowsOrder records) (sym same) knows
     listed_knows (inr (absent, ids, listed, marks, walks, referenced)) = record {
       marks = ap (λ v. length v.items) marks ∙ knows.marks;
       walks = ap (λ v. length v.items) walks ∙ knows.walks;
@@ -177,7 +177,7 @@ module _ (records : List Record) where
           ]
 
   -- a type that is open no more
-  module _ (q r : Progress) (knows : Knows records q) (id : ℕ) (lt : id < length q.marks.items) where
+  module _ (q r : Progress) (knows : KnowsOrder records q) (id : ℕ) (lt : id < length q.marks.items) where
     marks_length : (settled : Bool) → length (if settled then set q.marks.items id Complete else q.marks.items) ≡ length q.marks.items
     marks_length true = length-set q.marks.items id Complete
     marks_length false = refl
@@ -190,7 +190,7 @@ module _ (records : List Record) where
         ]
     complete_after false covered j e = knows.complete j e
 
-    pub left_knows : (settled : Bool) → HasLeft q r id settled → (settled ≡ true → IsCovered records q.ids.items id) → Knows records r
+    pub left_knows : (settled : Bool) → HasLeft q r id settled → (settled ≡ true → IsCovered records q.ids.items id) → KnowsOrder records r
     left_knows settled left covered =
         knows_from q r knows (ap (λ xs. length xs) left.marks ∙ marks_length settled) left.walks left.order
         (λ j e. complete_after settled covered j (ap (λ xs. is_complete_in xs j) (sym left.marks) ∙ e))
@@ -220,5 +220,5 @@ module _ (records : List Record) where
         omega (arith, walks, marks)
 
   -- a type of the table has a mark
-  pub inside : (q : Progress) → Knows records q → (id : ℕ) (r : Record) → slice_get records id ≡ Some r → id < length q.marks.items
+  pub inside : (q : Progress) → KnowsOrder records q → (id : ℕ) (r : Record) → slice_get records id ≡ Some r → id < length q.marks.items
   inside q knows id r here = subst (λ (n : ℕ). id < n) (sym knows.marks) (slice_get_within records id r here)

@@ -5,7 +5,7 @@ use Rattle.btf_model.specs.Record.{Record}
 use Rattle.btf_order_model.specs.Order.{value_types_in}
 use Rattle.btf_order.specs.declared.frame.Frame.{Frame}
 use Rattle.btf_order.specs.declared.shape.Node.{Node}
-use Rattle.btf_order.specs.Frame.{IsFrame}
+use Rattle.btf_order.specs.Frame.{IsWalkFrame}
 use Rattle.btf_order.specs.Shape.{Refers}
 use Rattle.btf_order.proofs.Covers.{frame_more}
 
@@ -21,7 +21,7 @@ first_pushed (g ∷ below) f top = refl
 module _ (records : List Record) where
   -- a type refers to the type that it waits for
   abbrev pub IsWaiting : List ℕ → Frame → Node → Type 0
-  IsWaiting ids f node = IsFrame records ids f × Refers (value_types_in records f.node.id) f.node.through_pointer f.next node
+  IsWaiting ids f node = IsWalkFrame records ids f × Refers (value_types_in records f.node.id) f.node.through_pointer f.next node
 
   abbrev pub Waiting : List ℕ → List Frame → Node → Type 0
   Waiting ids [] top = Unit {0}
@@ -46,7 +46,7 @@ module _ (records : List Record) where
   -- ---- steps of the walk
 
   -- the stack when the walk goes down from `after`, which was the top
-  pub down_waiting : (before ids : List ℕ) (below pushed : List Frame) (top after : Frame) (node : Node) → ((id : ℕ) → Contains before id → Contains ids id) → after.node ≡ top.node → Waiting before below top.node → IsFrame records ids after
+  pub down_waiting : (before ids : List ℕ) (below pushed : List Frame) (top after : Frame) (node : Node) → ((id : ℕ) → Contains before id → Contains ids id) → after.node ≡ top.node → Waiting before below top.node → IsWalkFrame records ids after
       → Refers (value_types_in records after.node.id) after.node.through_pointer after.next node → pushed ≡ below ++ after ∷ [] → Waiting ids pushed node
   down_waiting before ids below pushed top after node more same waiting frame refers is =
       subst (λ fs. Waiting ids fs node) (sym is)

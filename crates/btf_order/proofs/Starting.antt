@@ -8,7 +8,7 @@ use Rattle.btf_order_model.specs.Order.{IsOrdered}
 use Rattle.btf_order.specs.declared.progress.Mark.TheVariants.{New}
 use Rattle.btf_order.specs.declared.progress.Progress.{Progress}
 use Rattle.btf_order.specs.declared.progress.Walks.{Walks}
-use Rattle.btf_order.specs.Progress.{is_complete_in, Knows}
+use Rattle.btf_order.specs.Progress.{is_complete_in, KnowsOrder}
 use Rattle.btf_order.proofs.Covers.{true_not_false}
 
 none_complete : (n id : ℕ) → is_complete_in (replicate n New) id ≡ false
@@ -24,7 +24,7 @@ none_listed (suc n) (suc id) e = none_listed n id e
 contains_none : (id : ℕ) → Contains [] id → ⊥
 contains_none id h = let lt : h.0 < 0 = h.1 in omega (arith, lt)
 
-pub knows_new : (records : List Record) (p : Progress) (n : ℕ) (w : Walks) → n ≡ length records → p.marks.items ≡ replicate n New → p.walks.items ≡ replicate n w → length p.referenced.items ≡ length records → p.listed.items ≡ replicate n false → p.ids.items ≡ [] → Knows records p
+pub knows_new : (records : List Record) (p : Progress) (n : ℕ) (w : Walks) → n ≡ length records → p.marks.items ≡ replicate n New → p.walks.items ≡ replicate n w → length p.referenced.items ≡ length records → p.listed.items ≡ replicate n false → p.ids.items ≡ [] → KnowsOrder records p
 knows_new records p n w count marks walks referenced listed ids = record {
   marks = ap (λ xs. length xs) marks ∙ length-replicate n New ∙ count;
   walks = ap (λ xs. length xs) walks ∙ length-replicate n w ∙ count;

@@ -25,8 +25,8 @@ abbrev pub LinkIs : List Record → List ℕ → Node → Link → Type 0
 LinkIs records ids node link = Covers node.through_pointer link.is_strong → IsCovered records ids node.id
 
 -- what a frame says of the types before the next one
-abbrev pub IsFrame : List Record → List ℕ → Frame → Type 0
-IsFrame records ids frame =
+abbrev pub IsWalkFrame : List Record → List ℕ → Frame → Type 0
+IsWalkFrame records ids frame =
     Covers frame.node.through_pointer frame.all_strong
     → AreCovered records ids (value_types_in records frame.node.id) frame.next
 

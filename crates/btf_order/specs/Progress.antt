@@ -21,7 +21,7 @@ abbrev pub is_complete_in : List Mark → ℕ → Bool
 is_complete_in marks id = is_complete_mark (slice_get marks id)
 
 -- the order has each declared type once, after what it needs; a complete type and what it needs are declared
-pub record Knows (records : List Record) (p : Progress) : Type 0 where
+pub record KnowsOrder (records : List Record) (p : Progress) : Type 0 where
   pub marks : length p.marks.items ≡ length records
   pub walks : length p.walks.items ≡ length records
   pub referenced : length p.referenced.items ≡ length records
@@ -55,7 +55,7 @@ pub record IsSameOrder (before after : Progress) : Type 0 where
   pub referenced : after.referenced ≡ before.referenced
 
 -- a type was opened
-pub record IsOpened (before after : Progress) (from to : Node) : Type 0 where
+pub record IsTypeOpened (before after : Progress) (from to : Node) : Type 0 where
   pub id : to.id ≡ from.id
   pub through_pointer : to.through_pointer ≡ true → from.through_pointer ≡ true
   pub less : left_over after + 2 ≤ left_over before
@@ -65,7 +65,7 @@ abbrev pub VisitIs : List Record → Progress → Progress → Node → Visit �
 VisitIs records before after node (Returns link) =
     (after ≡ before) × LinkIs records before.ids.items node link
     × (node.through_pointer ≡ false → is_complete_in before.marks.items node.id ≡ true)
-VisitIs records before after node (Opens next) = IsOpened before after node next
+VisitIs records before after node (Opens next) = IsTypeOpened before after node next
 
 -- a type is opened by its mark
 abbrev pub IsMarked : Progress → Progress → ℕ → Visit → Type 0

@@ -10,9 +10,9 @@ use Rattle.btf_order.specs.Progress.{left_over}
 use Rattle.btf_order.specs.Shape.{Refers}
 
 -- down to a type that was opened, or up after the last type
-abbrev pub StepIs : List Record → Progress → Progress → Frame → Step → Type 0
-StepIs records before after top (Down node) =
+abbrev pub WalkStepIs : List Record → Progress → Progress → Frame → Step → Type 0
+WalkStepIs records before after top (Down node) =
     Refers (value_types_in records top.node.id) top.node.through_pointer top.next node
     × (left_over after + 2 ≤ left_over before)
-StepIs records before after top Up =
+WalkStepIs records before after top Up =
     (length (value_types_in records top.node.id) ≤ top.next) × (left_over after ≤ left_over before)

@@ -5,8 +5,8 @@ ghost use Rattle.btf_order_model.specs.Order.{value_types_in};
 ghost use Rattle.btf_records.specs.BtfType.{record_of};
 ghost use Rattle.btf_plain.specs.declared.error.BtfError.TheVariants.{MaximumTypeDepthReached, OutOfMemory};
 ghost use Rattle.btf_order.specs.Errors.{IsOrderError};
-ghost use Rattle.btf_order.specs.Frame.{IsFrame, IsCovered, LinkIs, is_done};
-ghost use Rattle.btf_order.specs.Progress.{Knows, Grows, IsListed, HasLeft, VisitIs, IsMarked, IsBehind, is_complete_in, left_over};
+ghost use Rattle.btf_order.specs.Frame.{IsWalkFrame, IsCovered, LinkIs, is_done};
+ghost use Rattle.btf_order.specs.Progress.{KnowsOrder, Grows, IsListed, HasLeft, VisitIs, IsMarked, IsBehind, is_complete_in, left_over};
 
 use crate::frame::{Frame, Link};
 use crate::shape::{Node, Passing, is_listed, passing_of, shape_of};
@@ -63,7 +63,7 @@ impl Progress {
     /// The progress before the first type.
     pub fn new(table: &Btf, referenced: Vec<bool>) -> Result<Self, BtfError>
         requires { length referenced.items ≡ length table.now.records }
-        ensures knows { IfOk result (λ p. Knows table.now.records p) }
+        ensures knows { IfOk result (λ p. KnowsOrder table.now.records p) }
         ensures error { IfErr result (λ e. e ≡ OutOfMemory) }
     {
         let alloc = allocator_of(table);
@@ -91,8 +91,8 @@ impl Progress {
 
     /// The walk comes to a type.
     pub fn visit(&mut self, table: &Btf, node: Node) -> Result<Visit, BtfError>
-        requires { Knows table.now.records self.old }
-        ensures knows { OnOk result (Knows table.now.records self.new) }
+        requires { KnowsOrder table.now.records self.old }
+        ensures knows { OnOk result (KnowsOrder table.now.records self.new) }
         ensures grows { OnOk result (Grows self.old self.new) }
         ensures visit { IfOk result (λ v.
             VisitIs table.now.records self.old self.new node v) }
@@ -153,11 +153,11 @@ impl Progress {
 
     /// The walk goes back from a type: it is declared after all that it has by value.
     pub fn close(&mut self, table: &Btf, frame: &Frame) -> Result<Link, BtfError>
-        requires knows { Knows table.now.records self.old }
-        requires frame { IsFrame table.now.records self.old.ids.items frame.now }
+        requires knows { KnowsOrder table.now.records self.old }
+        requires frame { IsWalkFrame table.now.records self.old.ids.items frame.now }
         requires last { length (value_types_in table.now.records frame.now.node.id)
             ≤ frame.now.next }
-        ensures knows { OnOk result (Knows table.now.records self.new) }
+        ensures knows { OnOk result (KnowsOrder table.now.records self.new) }
         ensures grows { OnOk result (Grows self.old self.new) }
         ensures link { IfOk result (λ l.
             LinkIs table.now.records self.new.ids.items frame.now.node l) }
@@ -175,13 +175,13 @@ impl Progress {
 
     /// Appends a type to the order, if it is declared and all that it has by value is declared.
     fn place(&mut self, table: &Btf, frame: &Frame, btf_type: &BtfType) -> Result<(), BtfError>
-        requires knows { Knows table.now.records self.old }
-        requires frame { IsFrame table.now.records self.old.ids.items frame.now }
+        requires knows { KnowsOrder table.now.records self.old }
+        requires frame { IsWalkFrame table.now.records self.old.ids.items frame.now }
         requires last { length (value_types_in table.now.records frame.now.node.id)
             ≤ frame.now.next }
         requires here { slice_get table.now.records frame.now.node.id
             ≡ Some (record_of btf_type.now) }
-        ensures knows { OnOk result (Knows table.now.records self.new) }
+        ensures knows { OnOk result (KnowsOrder table.now.records self.new) }
         ensures grows { OnOk result (Grows self.old self.new) }
         ensures covered { OnOk result (is_done frame.now ≡ true
             → IsCovered table.now.records self.new.ids.items frame.now.node.id) }

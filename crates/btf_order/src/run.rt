@@ -4,9 +4,9 @@
 
 ghost use Rattle.std.specs.Prelude.{◌≡◌, true, OnOk, IfOk, IfErr};
 ghost use Rattle.btf_order.specs.Errors.{IsOrderError};
-ghost use Rattle.btf_order.specs.Frame.{IsFrame};
-ghost use Rattle.btf_order.specs.Progress.{Knows, Grows, is_complete_in};
-ghost use Rattle.btf_order.specs.Run.{StepIs};
+ghost use Rattle.btf_order.specs.Frame.{IsWalkFrame};
+ghost use Rattle.btf_order.specs.Progress.{KnowsOrder, Grows, is_complete_in};
+ghost use Rattle.btf_order.specs.Run.{WalkStepIs};
 
 use crate::frame::Frame;
 use crate::progress::{Progress, Visit};
@@ -25,8 +25,8 @@ enum Step {
 
 /// Walks from a type, by value.
 pub fn run(table: &Btf, root: u32, progress: &mut Progress) -> Result<(), BtfError>
-    requires { Knows table.now.records progress.old }
-    ensures knows { OnOk result (Knows table.now.records progress.new) }
+    requires { KnowsOrder table.now.records progress.old }
+    ensures knows { OnOk result (KnowsOrder table.now.records progress.new) }
     ensures grows { OnOk result (Grows progress.old progress.new) }
     ensures error { IfErr result (λ e. IsOrderError table.now.records e) }
     ensures root { OnOk result (is_complete_in progress.new.marks.items root ≡ true) }
@@ -59,15 +59,15 @@ pub fn run(table: &Btf, root: u32, progress: &mut Progress) -> Result<(), BtfErr
 
 /// Goes over the types that a type refers to, up to the first one that has to be walked from.
 fn advance(table: &Btf, top: &mut Frame, progress: &mut Progress) -> Result<Step, BtfError>
-    requires knows { Knows table.now.records progress.old }
-    requires frame { IsFrame table.now.records progress.old.ids.items top.old }
-    ensures knows { OnOk result (Knows table.now.records progress.new) }
+    requires knows { KnowsOrder table.now.records progress.old }
+    requires frame { IsWalkFrame table.now.records progress.old.ids.items top.old }
+    ensures knows { OnOk result (KnowsOrder table.now.records progress.new) }
     ensures grows { OnOk result (Grows progress.old progress.new) }
-    ensures frame { OnOk result (IsFrame table.now.records progress.new.ids.items top.new) }
+    ensures frame { OnOk result (IsWalkFrame table.now.records progress.new.ids.items top.new) }
     ensures node { OnOk result (top.new.node ≡ top.old.node) }
     ensures error { IfErr result (λ e. IsOrderError table.now.records e) }
     ensures step { IfOk result (λ s.
-        StepIs table.now.records progress.old progress.new top.new s) }
+        WalkStepIs table.now.records progress.old progress.new top.new s) }
 {
     let btf_type = table.type_by_id(top.node.id)?;
     while let Some(node) = child_of(btf_type, top.node.through_pointer, top.next) {

@@ -6,12 +6,12 @@ use Rattle.btf_plain.specs.declared.fallback.Enum64Fallback.{Enum64Fallback}
 use Rattle.btf_plain.specs.declared.fallback.Enum64VariantFallback.{Enum64VariantFallback}
 
 -- a variant that a UNION retains of an ENUM64
-abbrev pub variant_of : Enum64VariantFallback → model.Variant
-variant_of v = record { name = v.name_offset; value = v.value }
+abbrev pub fallback_variant : Enum64VariantFallback → model.Variant
+fallback_variant v = record { name = v.name_offset; value = v.value }
 
 -- what a UNION retains of an ENUM64: its sign and its variants
 abbrev pub fallback_value : Enum64Fallback → model.Fallback
-fallback_value f = record { signed = f.signed; variants = map variant_of f.variants.items }
+fallback_value f = record { signed = f.signed; variants = map fallback_variant f.variants.items }
 
 -- the same, if there is one
 abbrev pub fallback_of_option : Option Enum64Fallback → Option model.Fallback

@@ -28,5 +28,5 @@ abbrev pub variant_of_param : BtfParam → BtfEnum
 variant_of_param p = record { name_offset = p.name_offset; value = p.btf_type }
 
 -- the words of an entry
-abbrev pub entry_words : DataSecEntry → List ℕ
-entry_words e = e.btf_type ∷ e.offset ∷ e.size ∷ []
+abbrev pub code_entry_words : DataSecEntry → List ℕ
+code_entry_words e = e.btf_type ∷ e.offset ∷ e.size ∷ []

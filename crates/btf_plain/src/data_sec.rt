@@ -4,7 +4,7 @@ ghost use Rattle.std.specs.Prelude.{◌≡◌, ◌+◌, ◌*◌, ◌≤◌, leng
 ghost use Rattle.std.specs.List.{flat_map};
 ghost use Rattle.btf_model.specs.Record.{vlen};
 ghost use Rattle.btf_model.specs.Made as made;
-ghost use Rattle.btf_plain.specs.Items.{entry_words};
+ghost use Rattle.btf_plain.specs.Items.{code_entry_words};
 ghost use Rattle.btf_plain.specs.declared.kind.BtfKind.TheVariants.{DataSec};
 
 use crate::item_list::ItemList;
@@ -38,7 +38,7 @@ impl Record<DataSecKind> {
     pub fn new(name_offset: u32, entries: Vec<DataSecEntry>, size: u32) -> Self
         requires { vec_len entries ≤ MAX_VLEN }
         ensures { result ≡ made.data_sec name_offset size (vec_len entries)
-            (flat_map entry_words entries.items) }
+            (flat_map code_entry_words entries.items) }
     {
         let items = ItemList::from_vec(entries);
         Self::listing(BtfKind::DataSec as u32, name_offset, false, size, items)
@@ -46,7 +46,7 @@ impl Record<DataSecKind> {
 
     /// The entries, in order.
     pub fn entries(&self) -> &[DataSecEntry]
-        ensures words { self.now.tail ≡ flat_map entry_words result.now }
+        ensures words { self.now.tail ≡ flat_map code_entry_words result.now }
         ensures count { vlen self.now.info ≡ length result.now }
     {
         self.items()
@@ -63,7 +63,7 @@ impl Record<DataSecKind> {
     pub fn set_entry(&mut self, index: usize, entry: DataSecEntry)
         requires { index < vlen self.old.info }
         ensures { self.new ≡ record self.old {
-          tail = take (3 * index) self.old.tail ++ entry_words entry
+          tail = take (3 * index) self.old.tail ++ code_entry_words entry
               ++ drop (3 * index + 3) self.old.tail;
         } }
     {

@@ -2,7 +2,7 @@
 
 ghost use Rattle.std.specs.Prelude.{◌≡◌, ◌/◌, ◌%◌, ◌^◌, [], ◌∷◌, slice_index, refl};
 ghost use Rattle.std.proofs.Common.{inl, inr};
-ghost use Rattle.btf_plain.specs.Items.{enum_words, enum64_words, member_words, param_words, entry_words};
+ghost use Rattle.btf_plain.specs.Items.{enum_words, enum64_words, member_words, param_words, code_entry_words};
 
 use crate::item::Item;
 
@@ -213,7 +213,7 @@ impl Item for DataSecEntry {
 
     ghost WIDTH = { 3 };
 
-    ghost item_words = { entry_words };
+    ghost item_words = { code_entry_words };
 
     fn words(&self) -> [u32; 3] {
         [self.btf_type, self.offset, self.size]

@@ -50,8 +50,8 @@ kind_refused HasPut HasKept place order bytes head rest number r e err none is n
     let no_kind : kind_of head.info ≡ None = ap (slice_get kinds) (sym number-is) ∙ none in
     let found = reads_other_kind order bytes h.long (ap kind_of (sym h.info) ∙ no_kind) in
     let same : InvalidTypeKind (kind_number head.info) ≡ e = ap (λ (n : ℕ). InvalidTypeKind n) (sym number-is) ∙ sym is in
-    let told : ReadsFront order bytes (Err (refusals.InvalidTypeKind (kind_number head.info))) = subst (λ (i : ℕ). ReadsFront order bytes (Err (refusals.InvalidTypeKind (kind_number i)))) (sym h.info) found in
-    subst (λ (x : Result ℕ BtfError). Puts HasPut (StaysOr HasKept) place place (ReadsFront order bytes) x) (sym (p.1 ∙ ap (λ (x : BtfError). Err x) (p.2 ∙ sym same))) (inl refl, told)
+    let reported : ReadsFront order bytes (Err (refusals.InvalidTypeKind (kind_number head.info))) = subst (λ (i : ℕ). ReadsFront order bytes (Err (refusals.InvalidTypeKind (kind_number i)))) (sym h.info) found in
+    subst (λ (x : Result ℕ BtfError). Puts HasPut (StaysOr HasKept) place place (ReadsFront order bytes) x) (sym (p.1 ∙ ap (λ (x : BtfError). Err x) (p.2 ∙ sym same))) (inl refl, reported)
 
 -- ---- what is written
 

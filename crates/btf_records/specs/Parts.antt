@@ -14,9 +14,9 @@ head_of (Alone head members) = head
 head_of (InsteadOf head fallback members) = head
 
 -- the members of a UNION
-abbrev pub members_of : Parts → List BtfMember
-members_of (Alone head members) = items_of members
-members_of (InsteadOf head fallback members) = members.items
+abbrev pub parts_members : Parts → List BtfMember
+parts_members (Alone head members) = items_of members
+parts_members (InsteadOf head fallback members) = members.items
 
 -- the fallback of a UNION
 abbrev pub kept_of : Parts → Option Fallback

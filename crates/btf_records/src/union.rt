@@ -38,12 +38,12 @@ pub struct Union {
 
 impl Parts {
     ghost use Rattle.std.specs.Prelude.{◌≡◌, Ok};
-    ghost use Rattle.btf_records.specs.Parts.{head_of, members_of, kept_of};
+    ghost use Rattle.btf_records.specs.Parts.{head_of, parts_members, kept_of};
 
     /// These words, these members, and this fallback.
     fn new(head: Head, members: Vec<BtfMember>, fallback: Option<Enum64Fallback>) -> Self
         ensures head { head_of result ≡ head }
-        ensures members { members_of result ≡ members.items }
+        ensures members { parts_members result ≡ members.items }
         ensures fallback { kept_of result ≡ fallback_of_option fallback }
     {
         match fallback {
@@ -64,10 +64,10 @@ impl Parts {
     /// A copy of the words, the members and the fallback.
     fn try_clone(&self) -> Result<Self, BtfError>
         ensures head { IsOrNoMemory head_of result (Ok (head_of self.now)) }
-        ensures members { IsOrNoMemory (λ m. flat_map member_words (members_of m)) result
-            (Ok (flat_map member_words (members_of self.now))) }
-        ensures count { IsOrNoMemory (λ m. length (members_of m)) result
-            (Ok (length (members_of self.now))) }
+        ensures members { IsOrNoMemory (λ m. flat_map member_words (parts_members m)) result
+            (Ok (flat_map member_words (parts_members self.now))) }
+        ensures count { IsOrNoMemory (λ m. length (parts_members m)) result
+            (Ok (length (parts_members self.now))) }
         ensures fallback { IsOrNoMemory kept_of result (Ok (kept_of self.now)) }
     {
         match self {
@@ -83,7 +83,7 @@ impl Parts {
     /// The words and the members, without the fallback.
     fn without_fallback(self) -> Self
         ensures head { head_of result ≡ head_of self }
-        ensures members { members_of result ≡ members_of self }
+        ensures members { parts_members result ≡ parts_members self }
         ensures fallback { kept_of result ≡ None }
     {
         match self {
@@ -101,17 +101,17 @@ impl Model for Union {
     ghost use Rattle.btf_plain.specs.Items.{member_words};
     ghost use Rattle.btf_plain.specs.ItemList.{items_of};
     ghost use Rattle.btf_plain.specs.Head.{headed};
-    ghost use Rattle.btf_records.specs.Parts.{head_of, members_of, kept_of};
+    ghost use Rattle.btf_records.specs.Parts.{head_of, parts_members, kept_of};
 
     ghost Value = { UnionRecord };
 
     ghost view = { λ a. record {
-      words = headed (head_of a.parts) (flat_map member_words (members_of a.parts));
+      words = headed (head_of a.parts) (flat_map member_words (parts_members a.parts));
       fallback = kept_of a.parts;
     } };
 
     ghost invariant = { λ a. (kind_of (head_of a.parts).info ≡ Some UnionKind)
-        × (vlen (head_of a.parts).info ≡ length (members_of a.parts)) };
+        × (vlen (head_of a.parts).info ≡ length (parts_members a.parts)) };
 }
 
 impl Union {

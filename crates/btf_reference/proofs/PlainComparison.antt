@@ -22,7 +22,7 @@ use Rattle.btf_reference.specs.declared.plain_comparison.Position.{Position}
 use Rattle.btf_reference.specs.declared.plain_comparison.Position.TheVariants as positions
 use Rattle.btf.specs.Pairs.{pair_of, ids_of, IsResolved}
 use Rattle.btf.specs.Compared.{types_of}
-use Rattle.btf_reference.specs.PlainComparison.{PositionIs, AreStarted, Lists}
+use Rattle.btf_reference.specs.PlainComparison.{PlainPositionIs, AreStarted, Lists}
 
 -- ---- the position after modifiers
 
@@ -30,12 +30,12 @@ decided_more : (answer : Result Bool BtfError) (P Q : model.Position → Type 0)
 decided_more (Ok b) P Q more h = more (Decided (Ok b)) h
 decided_more (Err e) P Q more h = (h.0, h.1, more (Decided (Err h.0)) h.2)
 
-position_more : (x : Position) (P Q : model.Position → Type 0) → ((y : model.Position) → P y → Q y) → PositionIs x P → PositionIs x Q
+position_more : (x : Position) (P Q : model.Position → Type 0) → ((y : model.Position) → P y → Q y) → PlainPositionIs x P → PlainPositionIs x Q
 position_more (positions.Decided answer) P Q more h = decided_more answer P Q more h
 position_more (positions.On next) P Q more h = more _ h
 position_more (positions.Prototypes params others next) P Q more h = more _ h
 
-pub found_at_ends : (local target : Table) (at : Pair) (found other : ℕ × Kind × Record) (x : Position) → IsResolved local at.local (Ok found) → IsResolved target at.target (Ok other) → PositionIs x (PositionFound found.0 found.1 other.1 found.2 other.2) → PositionIs x (Finds local target at)
+pub found_at_ends : (local target : Table) (at : Pair) (found other : ℕ × Kind × Record) (x : Position) → IsResolved local at.local (Ok found) → IsResolved target at.target (Ok other) → PlainPositionIs x (PositionFound found.0 found.1 other.1 found.2 other.2) → PlainPositionIs x (Finds local target at)
 found_at_ends local target at found other x h g is =
     position_more x (PositionFound found.0 found.1 other.1 found.2 other.2) (Finds local target at)
     (λ y is. inr (record { local = found.0; target = other.0 }, found.1, other.1, found.2, other.2, (h.0, g.0), h.1, g.1, is)) is

@@ -14,10 +14,10 @@ use Rattle.btf_reference.specs.declared.plain_comparison.Position.{Position}
 use Rattle.btf_reference.specs.declared.plain_comparison.Position.TheVariants as positions
 
 -- P holds of the position
-abbrev pub PositionIs : Position → (model.Position → Type 0) → Type 0
-PositionIs (positions.Decided answer) P = Meets (λ b. b) answer (λ a. P (Decided a))
-PositionIs (positions.On next) P = P (On (pair_of next))
-PositionIs (positions.Prototypes params others next) P =
+abbrev pub PlainPositionIs : Position → (model.Position → Type 0) → Type 0
+PlainPositionIs (positions.Decided answer) P = Meets (λ b. b) answer (λ a. P (Decided a))
+PlainPositionIs (positions.On next) P = P (On (pair_of next))
+PlainPositionIs (positions.Prototypes params others next) P =
     P (Pending (pairs (types_of params.now) (types_of others.now)) (pair_of next))
 
 -- The ids of the pair are both known, and this is whether their kinds are compatible; or this is the error of the first

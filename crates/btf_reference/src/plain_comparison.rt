@@ -9,7 +9,7 @@ ghost use Rattle.btf_plain.specs.Error.{Meets};
 ghost use Rattle.btf_records.specs.BtfType.{record_of, type_kind};
 ghost use Rattle.btf.specs.Compared.{types_of};
 ghost use Rattle.btf.specs.Pairs.{IsResolved, pair_of};
-ghost use Rattle.btf_reference.specs.PlainComparison.{AreStarted, Lists, PositionIs};
+ghost use Rattle.btf_reference.specs.PlainComparison.{AreStarted, Lists, PlainPositionIs};
 
 use btf::{Array, Btf, BtfError, BtfParam, BtfType, FuncProto, Int, Ptr};
 use std::alloc::{AllocError, AllocFailed, Global};
@@ -208,7 +208,7 @@ fn resolved_pair(local: &Btf, target: &Btf, at: (u32, u32)) -> Result<(u32, u32)
 
 /// Compares a pair of ids. Both are resolved, the local one first.
 fn found_at<'a>(local: &'a Btf, target: &'a Btf, at: (u32, u32)) -> Position<'a>
-    ensures { PositionIs result (Finds local.now target.now (pair_of at)) }
+    ensures { PlainPositionIs result (Finds local.now target.now (pair_of at)) }
 {
     let (local_id, local_type) = match resolved(local, at.0) {
         Ok(found) => found,
@@ -232,7 +232,7 @@ fn resolved(table: &Btf, type_id: u32) -> Result<(u32, &BtfType), BtfError>
 
 /// Compares two types that are no modifiers.
 fn found_in<'a>(local_id: u32, local_type: &'a BtfType, target_type: &'a BtfType) -> Position<'a>
-    ensures { PositionIs result (PositionFound local_id (type_kind local_type.now)
+    ensures { PlainPositionIs result (PositionFound local_id (type_kind local_type.now)
         (type_kind target_type.now) (record_of local_type.now) (record_of target_type.now)) }
 {
     if !local_type.is_compatible(target_type) {
@@ -267,7 +267,7 @@ fn found_in<'a>(local_id: u32, local_type: &'a BtfType, target_type: &'a BtfType
 /// Compares an integer with another type: whether that is an integer too, and both begin at bit 0.
 fn ints<'a>(local: &Int, target_type: &BtfType) -> Position<'a>
     ensures { type_kind target_type.now ≡ model.Int
-        → PositionIs result (λ found. found ≡ position_by 0 model.Int local.now
+        → PlainPositionIs result (λ found. found ≡ position_by 0 model.Int local.now
         (record_of target_type.now)) }
 {
     match target_type {
@@ -279,7 +279,7 @@ fn ints<'a>(local: &Int, target_type: &BtfType) -> Position<'a>
 /// Compares a pointer with another type: the types that both point to are next.
 fn pointers<'a>(local: &Ptr, target_type: &BtfType) -> Position<'a>
     ensures { type_kind target_type.now ≡ model.Ptr
-        → PositionIs result (λ found. found ≡ position_by 0 model.Ptr local.now
+        → PlainPositionIs result (λ found. found ≡ position_by 0 model.Ptr local.now
         (record_of target_type.now)) }
 {
     match target_type {
@@ -291,7 +291,7 @@ fn pointers<'a>(local: &Ptr, target_type: &BtfType) -> Position<'a>
 /// Compares an array with another type: the element types of both are next.
 fn arrays<'a>(local: &Array, target_type: &BtfType) -> Position<'a>
     ensures { type_kind target_type.now ≡ model.Array
-        → PositionIs result (λ found. found ≡ position_by 0 model.Array local.now
+        → PlainPositionIs result (λ found. found ≡ position_by 0 model.Array local.now
         (record_of target_type.now)) }
 {
     match target_type {
@@ -306,7 +306,7 @@ fn arrays<'a>(local: &Array, target_type: &BtfType) -> Position<'a>
 /// the return types.
 fn prototypes<'a>(local: &'a FuncProto, target_type: &'a BtfType) -> Position<'a>
     ensures { type_kind target_type.now ≡ model.FuncProto
-        → PositionIs result (λ found. found ≡ position_by 0 model.FuncProto local.now
+        → PlainPositionIs result (λ found. found ≡ position_by 0 model.FuncProto local.now
         (record_of target_type.now)) }
 {
     let BtfType::FuncProto(target) = target_type else {

@@ -1,7 +1,7 @@
 -- The answers of the candidates, one after another.
 use Rattle.std.proofs.Common.{◌≡◌, ℕ, ◌+◌, ◌<◌, ◌≤◌, List, [], ◌∷◌, ◌++◌, length, drop, get_or, Option, Some, None, Result, Ok, Err, refl, sym, ap, ◌∙◌, add-one, drop-cons, append_assoc}
 use Rattle.std.proofs.lemmas.List.{drop_all, append-nil}
-use Rattle.btf_relocate_model.specs.Resolution.{answers, joined, retained}
+use Rattle.btf_relocate_model.specs.Resolution.{answers, joined_answer, retained}
 use Rattle.btf_relocate_model.specs.Types.{◌>>=◌}
 use Rattle.btf_relocate_model.specs.declared.answer.Answer.{Answer}
 use Rattle.btf_relocate_model.specs.declared.error.RelocationError.{RelocationError}
@@ -35,10 +35,10 @@ module _ (answer : ℕ → Result (Option Answer) RelocationError) (start : Opti
   pub refused : (first : Option Answer) (kept : List ℕ) (i : ℕ) → i < length cs → Left first kept i → (e : RelocationError) → answer (get_or cs i 0) ≡ Err e → answers answer start cs ≡ Err e
   refused first kept i lt left e is = sym (here first kept i lt left) ∙ rw is refl
 
-  pub apart : (first : Option Answer) (kept : List ℕ) (i : ℕ) → i < length cs → Left first kept i → (a : Option Answer) (e : RelocationError) → answer (get_or cs i 0) ≡ Ok a → joined first a ≡ Err e → answers answer start cs ≡ Err e
+  pub apart : (first : Option Answer) (kept : List ℕ) (i : ℕ) → i < length cs → Left first kept i → (a : Option Answer) (e : RelocationError) → answer (get_or cs i 0) ≡ Ok a → joined_answer first a ≡ Err e → answers answer start cs ≡ Err e
   apart first kept i lt left a e is differs = sym (here first kept i lt left) ∙ rw (is, differs) refl
 
-  pub goes_on : (first : Option Answer) (kept : List ℕ) (i : ℕ) → i < length cs → Left first kept i → (a next : Option Answer) → answer (get_or cs i 0) ≡ Ok a → joined first a ≡ Ok next
+  pub goes_on : (first : Option Answer) (kept : List ℕ) (i : ℕ) → i < length cs → Left first kept i → (a next : Option Answer) → answer (get_or cs i 0) ≡ Ok a → joined_answer first a ≡ Ok next
       → Left next (kept ++ retained (get_or cs i 0) a []) (i + 1)
   goes_on first kept i lt left a next is same =
       let step : before kept (answers answer next (drop (i + 1) cs) >>= λ rest. Ok (rest.0, retained (get_or cs i 0) a rest.1)) ≡ answers answer start cs = rw (is, same) at (here first kept i lt left) in

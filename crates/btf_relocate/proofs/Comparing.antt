@@ -14,8 +14,8 @@ use Rattle.btf_relocate_model.specs.Types.{◌>>=◌}
 use Rattle.btf_relocate_model.specs.declared.comparison.Pair.{Pair}
 use Rattle.btf_relocate_model.specs.declared.error.RelocationError.{RelocationError}
 use Rattle.btf_relocate_model.specs.declared.error.RelocationError.TheVariants.{OutOfMemory, MaximumTypeDepthReached}
-use Rattle.btf_relocate.specs.Comparing.{Answers, answer_in, is_among, pair_cmp, InTables, left_of, Unanswered, AreResults, inside, GoesOn, WaitsFor, starts, AreWaiting, AreBegun, AreFound, IsUnderWay, beginning, IsAsked, RunsOn}
-use Rattle.btf_relocate.specs.Steps.{Compare, Continues, NextMember, after, next_of, rest, rest_by, resumed, from_member}
+use Rattle.btf_relocate.specs.Comparing.{Answers, known_answer, is_among, pair_cmp, InTables, left_of, Unanswered, AreResults, inside, GoesOn, WaitsFor, starts, AreWaiting, AreBegun, HaveComparisons, IsUnderWay, beginning, IsAsked, RunsOn}
+use Rattle.btf_relocate.specs.Steps.{Compare, Continues, NextMember, after_comparison, next_of, rest, rest_by, resumed, from_member}
 use Rattle.btf_relocate.specs.declared.types.Frame.{Frame}
 use Rattle.btf_relocate.specs.declared.types.Progress.{Progress}
 use Rattle.btf_relocate.specs.declared.types.walk.Next.{Next}
@@ -83,24 +83,24 @@ room_inside c p begun room within out le =
 -- ---- what is remembered
 
 module _ (m n : Answers) (p : Pair) (o : Option Bool) (set : Updates pair_cmp m n p (Some o)) where
-  here : answer_in n p ≡ Some o
+  here : known_answer n p ≡ Some o
   here = set.1
 
-  elsewhere : (q : Pair) → same_pair p q ≡ false → answer_in n q ≡ answer_in m q
+  elsewhere : (q : Pair) → same_pair p q ≡ false → known_answer n q ≡ known_answer m q
   elsewhere q differs = set.2 q (sym (at_same p q) ∙ differs)
 
-differs_by : (m : Answers) (p q : Pair) (a b : Option (Option Bool)) → answer_in m p ≡ a → answer_in m q ≡ b → (a ≡ b → ⊥) → same_pair p q ≡ false
+differs_by : (m : Answers) (p q : Pair) (a b : Option (Option Bool)) → known_answer m p ≡ a → known_answer m q ≡ b → (a ≡ b → ⊥) → same_pair p q ≡ false
 differs_by m p q a b one other apart = elim (cases_Bool (same_pair p q)) [
-  | inl same ↦ absurd (apart (sym one ∙ ap (answer_in m) (same_is p q same) ∙ other))
+  | inl same ↦ absurd (apart (sym one ∙ ap (known_answer m) (same_is p q same) ∙ other))
   | inr differs ↦ differs
 ]
 
 -- an answer that is set is the only new one
-unanswered_before : (m n : Answers) (p : Pair) (o : Option Bool) → Updates pair_cmp m n p (Some o) → (answer_in m p ≡ None) ⊎ (answer_in m p ≡ Some None) → (begun : List Pair) → Unanswered n begun → Unanswered m begun
+unanswered_before : (m n : Answers) (p : Pair) (o : Option Bool) → Updates pair_cmp m n p (Some o) → (known_answer m p ≡ None) ⊎ (known_answer m p ≡ Some None) → (begun : List Pair) → Unanswered n begun → Unanswered m begun
 unanswered_before m n p o set before begun now q b is = elim (cases_Bool (same_pair p q)) [
   | inl same ↦ elim before [
-    | inl none ↦ absurd (let wrong : None ≡ Some (Some b) = sym none ∙ ap (answer_in m) (same_is p q same) ∙ is in cc)
-    | inr open_one ↦ absurd (let wrong : Some None ≡ Some (Some b) = sym open_one ∙ ap (answer_in m) (same_is p q same) ∙ is in cc)
+    | inl none ↦ absurd (let wrong : None ≡ Some (Some b) = sym none ∙ ap (known_answer m) (same_is p q same) ∙ is in cc)
+    | inr open_one ↦ absurd (let wrong : Some None ≡ Some (Some b) = sym open_one ∙ ap (known_answer m) (same_is p q same) ∙ is in cc)
   ]
   | inr differs ↦ now q b (elsewhere m n p o set q differs ∙ is)
 ]
@@ -114,7 +114,7 @@ module _ (c : Comparison) where
     goes_on_with : (f : Frame) (a : Option Bool) → GoesOn c m f a → GoesOn c n f a
     goes_on_with f a goes room begun le none out = goes room begun le (fewer_begun begun none) out
 
-    waiting_on : (root : Pair) (fs : List Frame) (p : Pair) → ((q : Pair) → is_among q (starts fs) ≡ true → answer_in n q ≡ answer_in m q)
+    waiting_on : (root : Pair) (fs : List Frame) (p : Pair) → ((q : Pair) → is_among q (starts fs) ≡ true → known_answer n q ≡ known_answer m q)
         → AreWaiting c root m fs p → AreWaiting c root n fs p
     waiting_on root [] p same is = is
     waiting_on root (f ∷ fs) p same is =
@@ -128,10 +128,10 @@ module _ (c : Comparison) where
         later q f fs among = elim (cases_Bool (same_pair q f.start)) [ inl same ↦ rw same refl | inr differs ↦ rw differs among ]
 
   -- ---- the pairs of the comparisons that are begun have no answer
-  start_open : (m : Answers) (root : Pair) (fs : List Frame) (p q : Pair) → AreWaiting c root m fs p → is_among q (starts fs) ≡ true → answer_in m q ≡ Some None
+  start_open : (m : Answers) (root : Pair) (fs : List Frame) (p q : Pair) → AreWaiting c root m fs p → is_among q (starts fs) ≡ true → known_answer m q ≡ Some None
   start_open m root [] p q waiting among = absurd (cc)
   start_open m root (f ∷ fs) p q waiting among = elim (cases_Bool (same_pair q f.start)) [
-    | inl same ↦ ap (answer_in m) (same_is q f.start same) ∙ waiting.1.no_answer
+    | inl same ↦ ap (known_answer m) (same_is q f.start same) ∙ waiting.1.no_answer
     | inr differs ↦ start_open m root fs f.start q waiting.2 (let more : is_among q (starts fs) ≡ true = rw differs at among in more)
   ]
 
@@ -142,7 +142,7 @@ module _ (c : Comparison) where
   ]
 
   -- a begun pair is outside those that have an answer
-  unanswered_inside : (m : Answers) (p : Pair) (begun : List Pair) → answer_in m p ≡ Some None → Unanswered m begun → Unanswered m (p ∷ begun)
+  unanswered_inside : (m : Answers) (p : Pair) (begun : List Pair) → known_answer m p ≡ Some None → Unanswered m begun → Unanswered m (p ∷ begun)
   unanswered_inside m p begun no_answer none q b is =
       let apart : same_pair q p ≡ false = differs_by m q p (Some (Some b)) (Some None) is no_answer (λ wrong. cc) in
       let out : is_among q begun ≡ false = none q b is in
@@ -201,15 +201,15 @@ module _ (c : Comparison) where
     ended_results q b-2 is room begun le none = elim (cases_Bool (same_pair f.start q)) [
       | inl same ↦
           let this : f.start ≡ q = same_is f.start q same in
-          let answer : Some (Some b) ≡ Some (Some b-2) = sym (here m n f.start (Some b) set) ∙ ap (answer_in n) this ∙ is in
+          let answer : Some (Some b) ≡ Some (Some b-2) = sym (here m n f.start (Some b) set) ∙ ap (known_answer n) this ∙ is in
           let value : b ≡ b-2 = cc in
           ap (compared room c begun) (sym this) ∙ own room begun le none ∙ ap (λ (x : Bool). let r : Result Bool RelocationError = Ok x in r) value
       | inr differs ↦ under.results q b-2 (sym (elsewhere m n f.start (Some b) set q differs) ∙ is) room begun le (before begun none)
     ]
 
-    ended_found : AreFound n fs
+    ended_found : HaveComparisons n fs
     ended_found q is = elim (cases_Bool (same_pair f.start q)) [
-      | inl same ↦ absurd (let wrong : Some (Some b) ≡ Some None = sym (here m n f.start (Some b) set) ∙ ap (answer_in n) (same_is f.start q same) ∙ is in cc)
+      | inl same ↦ absurd (let wrong : Some (Some b) ≡ Some None = sym (here m n f.start (Some b) set) ∙ ap (known_answer n) (same_is f.start q same) ∙ is in cc)
       | inr differs ↦
           let among : is_among q (starts (f ∷ fs)) ≡ true = under.found q (sym (elsewhere m n f.start (Some b) set q differs) ∙ is) in
           let apart : same_pair q f.start ≡ false = sym (same_turned f.start q) ∙ differs in
@@ -221,7 +221,7 @@ module _ (c : Comparison) where
     ended_begun [] same waiting out = (b, refl, ap (compared (pair_count c) c []) (sym waiting) ∙ own (pair_count c) [] (all_left c) (λ q x is. refl))
     ended_begun (g ∷ gs) same waiting out =
         let apart : same_pair f.start g.start ≡ false = apart_from f.start g.start (g ∷ gs) (let front : is_among g.start (starts (g ∷ gs)) ≡ true = rw (same_itself g.start) refl in front) out in
-        let no_answer : answer_in n g.start ≡ Some None = elsewhere m n f.start (Some b) set g.start apart ∙ waiting.1.no_answer in (
+        let no_answer : known_answer n g.start ≡ Some None = elsewhere m n f.start (Some b) set g.start apart ∙ waiting.1.no_answer in (
           (λ room begun le none out_of.
               sym (ap (λ (o : Result Bool RelocationError). o >>= λ x. rest (inside room c begun g.start) c g (Some x))
               (own room (g.start ∷ begun) (room_inside c g.start begun room waiting.1.within out_of le) (unanswered_inside n g.start begun no_answer none)))
@@ -267,7 +267,7 @@ module _ (c : Comparison) where
         ∙ asks (inside room c begun f.start) ∙ under.begun.0 room begun le none out
 
     -- the pair has an answer
-    answered : (p q : Pair) (b : Bool) → Asks p → resolved_pair c p ≡ Ok q → answer_in m q ≡ Some (Some b) → IsUnderWay c root m (moved f at left index other ∷ fs) (Some b)
+    answered : (p q : Pair) (b : Bool) → Asks p → resolved_pair c p ≡ Ok q → known_answer m q ≡ Some (Some b) → IsUnderWay c root m (moved f at left index other ∷ fs) (Some b)
     answered p q b asks is answer =
         moved_on (Some b) (λ room begun le none out.
         sym (ap (λ (o : Result Bool RelocationError). o >>= λ x. rest (inside room c begun f.start) c (moved f at left index other) (Some x))
@@ -285,14 +285,14 @@ module _ (c : Comparison) where
     unresolved p e asks is = asked_fails p e asks (λ room begun same. ap (λ (o : Result Pair RelocationError). o >>= compared room c (f.start ∷ begun)) is)
 
     -- the pair is met inside its own comparison
-    met_again : (p q : Pair) → Asks p → resolved_pair c p ≡ Ok q → answer_in m q ≡ Some None → compared (pair_count c) c [] root ≡ Err (MaximumTypeDepthReached q.local)
+    met_again : (p q : Pair) → Asks p → resolved_pair c p ≡ Ok q → known_answer m q ≡ Some None → compared (pair_count c) c [] root ≡ Err (MaximumTypeDepthReached q.local)
     met_again p q asks is no_answer =
         asked_fails p (MaximumTypeDepthReached q.local) asks (λ room begun same.
         asked_inside p q is room begun
         ∙ ap (λ (ps : List Pair). compared room c (f.start ∷ ps) q) same ∙ refused c room (starts (f ∷ fs)) q (under.found q no_answer))
 
     -- the comparison of the pair begins
-    module _ (n : Answers) (p q : Pair) (asks : Asks p) (is : resolved_pair c p ≡ Ok q) (new : answer_in m q ≡ None) (set : Updates pair_cmp m n q (Some None)) where
+    module _ (n : Answers) (p q : Pair) (asks : Asks p) (is : resolved_pair c p ≡ Ok q) (new : known_answer m q ≡ None) (set : Updates pair_cmp m n q (Some None)) where
       begun_before : (begun : List Pair) → Unanswered n begun → Unanswered m begun
       begun_before = unanswered_before m n q None set (inl new)
 
@@ -311,11 +311,11 @@ module _ (c : Comparison) where
 
       begun_results : AreResults c n
       begun_results r b answer room begun le none = elim (cases_Bool (same_pair q r)) [
-        | inl same ↦ absurd (let wrong : Some None ≡ Some (Some b) = sym (here m n q None set) ∙ ap (answer_in n) (same_is q r same) ∙ answer in cc)
+        | inl same ↦ absurd (let wrong : Some None ≡ Some (Some b) = sym (here m n q None set) ∙ ap (known_answer n) (same_is q r same) ∙ answer in cc)
         | inr differs ↦ under.results r b (sym (elsewhere m n q None set r differs) ∙ answer) room begun le (begun_before begun none)
       ]
 
-      begun_found : AreFound n (beginning q ∷ moved f at left index other ∷ fs)
+      begun_found : HaveComparisons n (beginning q ∷ moved f at left index other ∷ fs)
       begun_found r answer = elim (cases_Bool (same_pair r q)) [
         | inl same ↦ rw same refl
         | inr differs ↦
@@ -351,12 +351,12 @@ module _ (c : Comparison) where
     );
   }
     where
-      none_in : (r : Pair) → answer_in m r ≡ None
+      none_in : (r : Pair) → known_answer m r ≡ None
       none_in r = rw empty refl
 
-      only : (r : Pair) (o : Option Bool) → answer_in n r ≡ Some o → (o ≡ None → ⊥) → ⊥
+      only : (r : Pair) (o : Option Bool) → known_answer n r ≡ Some o → (o ≡ None → ⊥) → ⊥
       only r o answer some = elim (cases_Bool (same_pair q r)) [
-        | inl same ↦ some (let both : Some None ≡ Some o = sym (here m n q None set) ∙ ap (answer_in n) (same_is q r same) ∙ answer in let value : None ≡ o = cc in sym value)
+        | inl same ↦ some (let both : Some None ≡ Some o = sym (here m n q None set) ∙ ap (known_answer n) (same_is q r same) ∙ answer in let value : None ≡ o = cc in sym value)
         | inr differs ↦ let wrong : None ≡ Some o = sym (none_in r) ∙ sym (elsewhere m n q None set r differs) ∙ answer in cc
       ]
 
@@ -411,7 +411,7 @@ module _ (c : Comparison) where
       rw (is, step, less) refl
 
   after_next : (inner : Compare) (f : Frame) → (f.left ≡ 0 → ⊥) → (p : Pair) → resolved_pair c f.at ≡ Ok p → (s : model.Step) → step_at c p ≡ Ok s
-      → (n : Next) → after inner c f n ≡ next_of inner (walked (f.left - 1) c f.start.local inner) c.local c.target s n
+      → (n : Next) → after_comparison inner c f n ≡ next_of inner (walked (f.left - 1) c f.start.local inner) c.local c.target s n
   after_next inner f some p is s step (next.Ends b) = refl
   after_next inner f some p is s step (next.GoesOn q) = refl
   after_next inner f some p is s step (next.Asks q k l) = by_answer (inner q)
@@ -439,7 +439,7 @@ module _ (c : Comparison) where
     pub is : resolved_pair c p ≡ Ok root
     pub under : IsUnderWay c root progress.pairs (reverse progress.frames.items) answer
 
-  no_answers : (m : Answers) (q : Pair) → IsEmpty m → answer_in m q ≡ None
+  no_answers : (m : Answers) (q : Pair) → IsEmpty m → known_answer m q ≡ None
   no_answers m q empty = rw empty refl
 
   pub begin : (p : Pair) (old new : Progress) (answer : Option Bool) → IsEmpty old.pairs → old.frames.items ≡ [] → IsAsked c p old new (Ok answer) → Runs p new answer

@@ -17,7 +17,7 @@ use Rattle.btf_plain.specs.declared.items.BtfMember.{BtfMember}
 use Rattle.btf_model.specs.Record.{Record}
 use Rattle.btf_model.specs.Table.{Table, Variant}
 use Rattle.btf_relocate_model.specs.Comparison as model
-use Rattle.btf_relocate_model.specs.Comparison.{parameter_types, prototypes, pair, all_among, essential_names, enumerators_of, named_enumerators, some_member, each_member, each_parameter, names_match}
+use Rattle.btf_relocate_model.specs.Comparison.{parameter_ids, prototype_step, pair, all_among, essential_names, enumerators_of, named_enumerators, some_member, each_member, each_parameter, names_match}
 use Rattle.btf_relocate_model.specs.Field.{Member}
 use Rattle.btf_relocate_model.specs.Name.{essential}
 use Rattle.btf_relocate_model.specs.Types.{◌>>=◌, name_at}
@@ -34,12 +34,12 @@ abbrev pub is_refusal : Option Bool → Bool
 is_refusal (Some false) = true
 is_refusal answer = false
 
-params_back : (ps : List BtfParam) → parameter_types (flat_map param_words ps) ≡ map type_of ps
+params_back : (ps : List BtfParam) → parameter_ids (flat_map param_words ps) ≡ map type_of ps
 params_back [] = refl
 params_back (p ∷ ps) = ap (λ (ts : List ℕ). type_of p ∷ ts) (params_back ps)
 
-types_of : (tail : List ℕ) (ps : List BtfParam) → tail ≡ flat_map param_words ps → parameter_types tail ≡ map type_of ps
-types_of tail ps is = ap parameter_types is ∙ params_back ps
+types_of : (tail : List ℕ) (ps : List BtfParam) → tail ≡ flat_map param_words ps → parameter_ids tail ≡ map type_of ps
+types_of tail ps is = ap parameter_ids is ∙ params_back ps
 
 equal_count : (ps qs : List BtfParam) → length ps ≡ length qs → (length (map type_of ps) == length (map type_of qs)) ≡ true
 equal_count ps qs same =
@@ -54,17 +54,17 @@ other_count ps qs differ =
     grind (arith, nat_tests)
 
 pub prototypes_differ : (b : Bool) (r s : Record) (ps qs : List BtfParam) → r.tail ≡ flat_map param_words ps → s.tail ≡ flat_map param_words qs → (length ps ≡ length qs → ⊥)
-    → model.Ends false ≡ prototypes b r s
+    → model.Ends false ≡ prototype_step b r s
 prototypes_differ b r s ps qs one two differ =
-    let first : parameter_types r.tail ≡ map type_of ps = types_of r.tail ps one in
-    let second : parameter_types s.tail ≡ map type_of qs = types_of s.tail qs two in
+    let first : parameter_ids r.tail ≡ map type_of ps = types_of r.tail ps one in
+    let second : parameter_ids s.tail ≡ map type_of qs = types_of s.tail qs two in
     rw (first, second, other_count ps qs differ) refl
 
 pub prototypes_same : (b : Bool) (r s : Record) (ps qs : List BtfParam) (p : Pair) → r.tail ≡ flat_map param_words ps → s.tail ≡ flat_map param_words qs → length ps ≡ length qs → p ≡ pair b r.third s.third
-    → model.EachParameter (map type_of ps) (map type_of qs) p ≡ prototypes b r s
+    → model.EachParameter (map type_of ps) (map type_of qs) p ≡ prototype_step b r s
 prototypes_same b r s ps qs p one two same is =
-    let first : parameter_types r.tail ≡ map type_of ps = types_of r.tail ps one in
-    let second : parameter_types s.tail ≡ map type_of qs = types_of s.tail qs two in
+    let first : parameter_ids r.tail ≡ map type_of ps = types_of r.tail ps one in
+    let second : parameter_ids s.tail ≡ map type_of qs = types_of s.tail qs two in
     rw (first, second, equal_count ps qs same) (ap (model.EachParameter (map type_of ps) (map type_of qs)) is)
 
 drop_map : {A B : Type 0} (f : A → B) (i : ℕ) (xs : List A) → drop i (map f xs) ≡ map f (drop i xs)

@@ -22,7 +22,7 @@ use Rattle.btf_relocate_model.specs.Instruction.{sign_extended}
 use Rattle.btf_relocate_model.specs.Name.{essential}
 use Rattle.btf_relocate_model.specs.Types.{name_at, resolved_record}
 use Rattle.btf_relocate_model.specs.declared.error.RelocationError.{RelocationError}
-use Rattle.btf_relocate.specs.Enumerators.{variant_of, enumerators_of}
+use Rattle.btf_relocate.specs.Enumerators.{enumerator_variant, type_enumerators}
 use Rattle.btf_relocate.specs.declared.enumerator.Enumerator.{Enumerator}
 
 -- the enumerators of an ENUM and of an ENUM64
@@ -42,14 +42,14 @@ wide_back (e ∷ es) = ap (λ (vs : List Variant). wide e ∷ vs) (wide_back es)
 
 -- the enumerators of an ENUM
 pub enum_has : (b : BtfType) (t : Record) (es : List BtfEnum) → b ≡ variants.Enum t → kind_of (record_of b).info ≡ Some (type_kind b) → t.tail ≡ flat_map enum_words es
-    → map narrow es ≡ enumerators_of (record_of b)
+    → map narrow es ≡ type_enumerators (record_of b)
 enum_has b t es is kind tail =
     let here : kind_of t.info ≡ Some model.Enum = subst (λ (x : BtfType). kind_of (record_of x).info ≡ Some (type_kind x)) is kind in
     rw (is, here, tail) (sym (narrow_back es))
 
 -- the enumerators of an ENUM64
 pub enum64_has : (b : BtfType) (t : Record) (es : List BtfEnum64) → b ≡ variants.Enum64 t → kind_of (record_of b).info ≡ Some (type_kind b) → t.tail ≡ flat_map enum64_words es
-    → map wide es ≡ enumerators_of (record_of b)
+    → map wide es ≡ type_enumerators (record_of b)
 enum64_has b t es is kind tail =
     let here : kind_of t.info ≡ Some model.Enum64 = subst (λ (x : BtfType). kind_of (record_of x).info ≡ Some (type_kind x)) is kind in
     rw (is, here, tail) (sym (wide_back es))
@@ -60,9 +60,9 @@ past [] i le = refl
 past (x ∷ xs) zero le = absurd (omega (arith, le))
 past (x ∷ xs) (suc i) le = past xs i (omega (arith, le))
 
-pub mapped_item : {A : Type 0} (f : A → Variant) (xs : List A) (i : ℕ) (o : Option (Bor A)) (r : Option Enumerator) (P : Bor A → Enumerator → Type 0) → ((x : Bor A) (e : Enumerator) → P x e → variant_of e ≡ f x.now)
-    → IsItemAt xs i o → MatchOption o (r ≡ None) (λ x. IsSomeAnd r (P x)) → option_map variant_of r ≡ slice_get (map f xs) i
-mapped_item f xs i None r P gives at none = ap (option_map variant_of) none ∙ past (map f xs) i (omega (arith, length-map xs f, at.3))
+pub mapped_item : {A : Type 0} (f : A → Variant) (xs : List A) (i : ℕ) (o : Option (Bor A)) (r : Option Enumerator) (P : Bor A → Enumerator → Type 0) → ((x : Bor A) (e : Enumerator) → P x e → enumerator_variant e ≡ f x.now)
+    → IsItemAt xs i o → MatchOption o (r ≡ None) (λ x. IsSomeAnd r (P x)) → option_map enumerator_variant r ≡ slice_get (map f xs) i
+mapped_item f xs i None r P gives at none = ap (option_map enumerator_variant) none ∙ past (map f xs) i (omega (arith, length-map xs f, at.3))
 mapped_item {A} f xs i (Some x) (Some e) P gives at some =
     ap (λ (v : Variant). Some v) (gives x e some ∙ ap f at.1)
     ∙ sym (slice_get-map f xs i ∙ ap (option_map f) (slice_get-get_or xs i x.now at.3.0))
@@ -94,7 +94,7 @@ module _ (t : Table) (name : List ℕ) (vs : List Variant) (i : ℕ) where
   pub no_more : Left → length vs ≤ i → first_named t name vs ≡ Ok None
   no_more left le = sym left ∙ ap (first_named t name) (drop_all i vs le)
 
-pub found_is : (t : Table) (id : ℕ) (name : List ℕ) (r : Record) (o : Result (Option Variant) RelocationError) → resolved_record t id ≡ Ok r → first_named t name (enumerators_of r) ≡ o → find_enumerator t id name ≡ o
+pub found_is : (t : Table) (id : ℕ) (name : List ℕ) (r : Record) (o : Result (Option Variant) RelocationError) → resolved_record t id ≡ Ok r → first_named t name (type_enumerators r) ≡ o → find_enumerator t id name ≡ o
 found_is t id name r o known is = rw known is
 
 pub same_names : (a b x y : List ℕ) (c : Bool) → c ≡ bytes_eq a b → a ≡ x → b ≡ y → bytes_eq x y ≡ c

@@ -16,7 +16,7 @@ use Rattle.std.proofs.lemmas.List.Sorted.{All-permutation, length_permutation, s
 use Rattle.std.proofs.lemmas.Map.Text.{is_eq-slice_cmp}
 use Rattle.btf_relocate_model.specs.Name.{essential, separates, has_flavor}
 use Rattle.btf_relocate_model.specs.Candidates.{is_nameless, compared_number, is_candidate, ids_from, candidates}
-use Rattle.btf_relocate_model.specs.Types.{name_or_none, known, record_at}
+use Rattle.btf_relocate_model.specs.Types.{name_or_none, known_record, required_record}
 use Rattle.btf_model.proofs.Comparisons.{same_ok}
 use Rattle.btf_relocate_model.specs.Section.{candidates_by, candidates_of}
 use Rattle.std.specs.Prelude.{◌==◌, Vec, Result, Ok, Err, IfOk}
@@ -26,7 +26,7 @@ use Rattle.std.specs.Cmp.{unsigned_ties}
 use Rattle.std.specs.Cmp.Lexicographic.{slice_cmp}
 use Rattle.btf_model.specs.Record.{Record, unknown, kind_number}
 use Rattle.btf_model.specs.Table.{Table}
-use Rattle.btf_relocate.specs.Index.{IsIndex, key_by, record_key, is_named, key_of, key_lt, key_cmp, named}
+use Rattle.btf_relocate.specs.Index.{IsIndex, key_by, record_key, is_named, key_of, key_lt, key_cmp, ids_with_name}
 use Rattle.btf_relocate.specs.Entries.{AreEntries, entry_key, id_of}
 use Rattle.btf_relocate.specs.declared.target.Entry.{Entry}
 
@@ -85,7 +85,7 @@ same_ids : (t : Table) (xs ys : List Entry) → length ys ≡ length xs → Have
 same_ids t [] ys len before after stable k = ap (filter (at_key t k)) (empty_too [] ys len refl)
 same_ids t (s ∷ xs) ys len before after stable k = same_at t s (s ∷ xs) ys before after stable k
 
-pub index_made : (t : Table) (xs ys : List Entry) (ids : List ℕ) → AreEntries t xs (named t) → IsPermutation xs ys → IsSortedBy is_below ys → IsStableBy is_below xs ys → ids ≡ map id_of ys → IsIndex t ids
+pub index_made : (t : Table) (xs ys : List Entry) (ids : List ℕ) → AreEntries t xs (ids_with_name t) → IsPermutation xs ys → IsSortedBy is_below ys → IsStableBy is_below xs ys → ids ≡ map id_of ys → IsIndex t ids
 index_made t xs ys ids are moved rising stable is =
     let after : HaveKeys t ys = All-permutation (λ e. key_of t e.type_id ≡ entry_key e) xs ys moved are.keys in
     let whole : IsIndex t (map id_of ys) = record {
@@ -179,7 +179,7 @@ tied : (k other : Key) → ties key_lt k other ≡ (is_le (key_cmp other k) && n
 tied k other = ap (λ (o : Ordering). not (is_lt o) && not (is_lt (key_cmp other k))) (key_total.antisymm k other) ∙ ap (λ (b : Bool). b && not (is_lt (key_cmp other k))) (not_above (key_cmp other k))
 
 pub at_index : (t : Table) (ids : List ℕ) (k : Key) (i j : ℕ) → IsIndex t ids → Splits (λ id. is_lt (key_cmp (key_of t id) k)) ids i → Splits (λ id. is_le (key_cmp (key_of t id) k)) ids j
-    → take (j - i) (drop i ids) ≡ filter (at_key t k) (named t)
+    → take (j - i) (drop i ids) ≡ filter (at_key t k) (ids_with_name t)
 at_index t ids k i j index a b =
     between (λ id. is_lt (key_cmp (key_of t id) k)) (λ id. is_le (key_cmp (key_of t id) k)) (at_key t k) (λ id. tied k (key_of t id)) ids i j a b ∙ index.same k
 
@@ -278,14 +278,14 @@ after_first : (rs : List Record) (j : ℕ) (r : Record) → slice_get (drop 1 rs
 after_first [] j r is = is
 after_first (x ∷ rs) j r is = let same : 1 + j ≡ suc j = omega arith in rw same is
 
-pub candidates_are : (t : Table) (name : List ℕ) (kind : ℕ) → filter (at_key t (essential name, compared_number kind)) (named t) ≡ candidates t name kind
+pub candidates_are : (t : Table) (name : List ℕ) (kind : ℕ) → filter (at_key t (essential name, compared_number kind)) (ids_with_name t) ≡ candidates t name kind
 candidates_are t name kind = named_from t name kind 1 (drop 1 t.records) (after_first t.records)
 
 -- what two searches of the index give
 pub found_between : (t : Table) (ids : List ℕ) (name : List ℕ) (kind i j : ℕ) (own : List ℕ) (code : ℕ) → IsIndex t ids → own ≡ essential name → code ≡ compared_number kind
     → Splits (λ id. is_lt (key_cmp (key_of t id) (own, code))) ids i → Splits (λ id. is_le (key_cmp (key_of t id) (own, code))) ids j → take (j - i) (drop i ids) ≡ candidates t name kind
 found_between t ids name kind i j own code index named_so coded_so a b =
-    at_index t ids (own, code) i j index a b ∙ ap (λ (n : List ℕ). filter (at_key t (n, code)) (named t)) named_so ∙ ap (λ (n : ℕ). filter (at_key t (essential name, n)) (named t)) coded_so ∙ candidates_are t name kind
+    at_index t ids (own, code) i j index a b ∙ ap (λ (n : List ℕ). filter (at_key t (n, code)) (ids_with_name t)) named_so ∙ ap (λ (n : ℕ). filter (at_key t (essential name, n)) (ids_with_name t)) coded_so ∙ candidates_are t name kind
 
 pub none_between : (t : Table) (ids : List ℕ) (name : List ℕ) (kind i j : ℕ) (own : List ℕ) (code : ℕ) → IsIndex t ids → own ≡ essential name → code ≡ compared_number kind
     → Splits (λ id. is_lt (key_cmp (key_of t id) (own, code))) ids i → Splits (λ id. is_le (key_cmp (key_of t id) (own, code))) ids j → j ≤ i → [] ≡ candidates t name kind
@@ -297,7 +297,7 @@ none_between t ids name kind i j own code index named_so coded_so a b le =
 
 -- the entries so far, and the ids that are left from this one on
 pub record Before (t : Table) (es : List Entry) (i : ℕ) : Type 0 where
-  pub are : map id_of es ++ ids_from (is_named t) i (drop i t.records) ≡ named t
+  pub are : map id_of es ++ ids_from (is_named t) i (drop i t.records) ≡ ids_with_name t
   pub keys : All (λ e. key_of t e.type_id ≡ entry_key e) es
 
 pub none_before : (t : Table) → Before t [] 1
@@ -325,7 +325,7 @@ module _ (t : Table) (es : List Entry) (i : ℕ) (name : List ℕ) (kind : ℕ) 
   abbrev rest : List ℕ
   rest = ids_from (is_named t) (suc i) (drop (i + 1) t.records)
 
-  now : map id_of es ++ (if not (is_nameless name) then i ∷ rest else rest) ≡ named t
+  now : map id_of es ++ (if not (is_nameless name) then i ∷ rest else rest) ≡ ids_with_name t
   now = ap (λ (b : Bool). map id_of es ++ (if b then i ∷ rest else rest)) (sym named_is) ∙ ap (λ (rs : List Record). map id_of es ++ ids_from (is_named t) i rs) (sym left) ∙ before.are
 
   same_rest : ids_from (is_named t) (i + 1) (drop (i + 1) t.records) ≡ rest
@@ -349,7 +349,7 @@ module _ (t : Table) (es : List Entry) (i : ℕ) (name : List ℕ) (kind : ℕ) 
         keys = subst (λ (xs : List Entry). All (λ e. key_of t e.type_id ≡ entry_key e) xs) (sym pushed) (All-append (λ e. key_of t e.type_id ≡ entry_key e) es (e ∷ []) before.keys one);
       }
 
-pub all_before : (t : Table) (es : List Entry) (i : ℕ) → length t.records ≤ i → Before t es i → AreEntries t es (named t)
+pub all_before : (t : Table) (es : List Entry) (i : ℕ) → length t.records ≤ i → Before t es i → AreEntries t es (ids_with_name t)
 all_before t es i le before = record {
   are = sym (append-nil (map id_of es)) ∙ ap (λ (rs : List Record). map id_of es ++ ids_from (is_named t) i rs) (sym (drop_all i t.records le)) ∙ before.are;
   keys = before.keys;
@@ -357,11 +357,11 @@ all_before t es i le before = record {
 
 -- ---- the candidates of a type of the program's table
 
-of_known : (local t : Table) (id : ℕ) (o : Option Record) (r : Record) → known id o ≡ Ok r → candidates_by local t (Some r) ≡ candidates_by local t o
+of_known : (local t : Table) (id : ℕ) (o : Option Record) (r : Record) → known_record id o ≡ Ok r → candidates_by local t (Some r) ≡ candidates_by local t o
 of_known local t id (Some x) r is = ap (λ (y : Record). candidates_by local t (Some y)) (sym (same_ok x r is))
 of_known local t id None r is = absurd (cc)
 
-pub candidates_of_record : (local t : Table) (id : ℕ) (r : Record) → record_at local id ≡ Ok r → candidates t (name_or_none local r.name) (kind_number r.info) ≡ candidates_of local t id
+pub candidates_of_record : (local t : Table) (id : ℕ) (r : Record) → required_record local id ≡ Ok r → candidates t (name_or_none local r.name) (kind_number r.info) ≡ candidates_of local t id
 candidates_of_record local t id r is = of_known local t id (slice_get local.records id) r is
 
 pub items_are : {A E : Type 0} {xs ys : List ℕ} (r : Result (Vec ℕ A) E) → IfOk r (λ v. v.items ≡ xs) → xs ≡ ys → IfOk r (λ v. v.items ≡ ys)

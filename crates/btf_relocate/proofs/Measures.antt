@@ -8,7 +8,7 @@ use Rattle.std.proofs.Math.Nat.{mul-le-mul_left}
 use Rattle.btf_relocate_model.specs.Comparison.{Comparison, same_pair}
 use Rattle.btf_relocate_model.specs.declared.comparison.Pair.{Pair}
 use Rattle.btf_relocate_model.specs.declared.error.RelocationError.{RelocationError}
-use Rattle.btf_relocate.specs.Comparing.{Answers, answer_in, is_among, pair_cmp, InTables, all_pairs, beginning, most, place_left, position_steps, steps_left, all_steps_left, count_new, pair_steps, work, IsAsked}
+use Rattle.btf_relocate.specs.Comparing.{Answers, known_answer, is_among, pair_cmp, InTables, all_pairs, beginning, most, place_left, position_steps, steps_left, all_steps_left, count_new, pair_steps, work, IsAsked}
 use Rattle.btf_relocate.specs.declared.types.Frame.{Frame}
 use Rattle.btf_relocate.specs.declared.types.Progress.{Progress}
 use Rattle.btf_relocate.proofs.Pairs.{at_same, same_is, in_all_pairs, pair_within}
@@ -59,10 +59,10 @@ steps_pushed (g ∷ fs) f = let rest : all_steps_left (fs ++ f ∷ []) ≡ all_s
 -- ---- pairs
 
 module _ (m n : Answers) (p : Pair) (v : Option Bool) (set : Updates pair_cmp m n p (Some v)) where
-  here : (q : Pair) → same_pair p q ≡ true → is_some (answer_in n q) ≡ true
-  here q same = ap (λ (r : Pair). is_some (answer_in n r)) (sym (same_is p q same)) ∙ ap is_some set.1
+  here : (q : Pair) → same_pair p q ≡ true → is_some (known_answer n q) ≡ true
+  here q same = ap (λ (r : Pair). is_some (known_answer n r)) (sym (same_is p q same)) ∙ ap is_some set.1
 
-  elsewhere : (q : Pair) → same_pair p q ≡ false → is_some (answer_in n q) ≡ is_some (answer_in m q)
+  elsewhere : (q : Pair) → same_pair p q ≡ false → is_some (known_answer n q) ≡ is_some (known_answer m q)
   elsewhere q differs = ap is_some (set.2 q (sym (at_same p q) ∙ differs))
 
   pub no_more_new : (ps : List Pair) → count_new n ps ≤ count_new m ps
@@ -70,29 +70,29 @@ module _ (m n : Answers) (p : Pair) (v : Option Bool) (set : Updates pair_cmp m 
   no_more_new (q ∷ ps) =
       let rest : count_new n ps ≤ count_new m ps = no_more_new ps in
       elim (cases_Bool (same_pair p q)) [
-        | inl same ↦ let now : is_some (answer_in n q) ≡ true = here q same in elim (cases_Bool (is_some (answer_in m q))) [
+        | inl same ↦ let now : is_some (known_answer n q) ≡ true = here q same in elim (cases_Bool (is_some (known_answer m q))) [
           | inl before ↦ rw (now, before) rest
           | inr before ↦ rw (now, before) (omega (arith, rest))
         ]
-        | inr differs ↦ let now : is_some (answer_in n q) ≡ is_some (answer_in m q) = elsewhere q differs in elim (cases_Bool (is_some (answer_in m q))) [
+        | inr differs ↦ let now : is_some (known_answer n q) ≡ is_some (known_answer m q) = elsewhere q differs in elim (cases_Bool (is_some (known_answer m q))) [
           | inl before ↦ rw (now, before) rest
           | inr before ↦ rw (now, before) (omega (arith, rest))
         ]
       ]
 
-  pub fewer_new : (ps : List Pair) → is_among p ps ≡ true → answer_in m p ≡ None → count_new n ps < count_new m ps
+  pub fewer_new : (ps : List Pair) → is_among p ps ≡ true → known_answer m p ≡ None → count_new n ps < count_new m ps
   fewer_new [] among none = absurd (cc)
   fewer_new (q ∷ ps) among none = elim (cases_Bool (same_pair p q)) [
     | inl same ↦
-        let now : is_some (answer_in n q) ≡ true = here q same in
-        let before : is_some (answer_in m q) ≡ false = ap (λ (r : Pair). is_some (answer_in m r)) (sym (same_is p q same)) ∙ ap is_some none in
+        let now : is_some (known_answer n q) ≡ true = here q same in
+        let before : is_some (known_answer m q) ≡ false = ap (λ (r : Pair). is_some (known_answer m r)) (sym (same_is p q same)) ∙ ap is_some none in
         let rest : count_new n ps ≤ count_new m ps = no_more_new ps in
         rw (now, before) (omega (arith, rest))
     | inr differs ↦
         let more : is_among p ps ≡ true = rw differs at among in
         let rest : count_new n ps < count_new m ps = fewer_new ps more none in
-        let now : is_some (answer_in n q) ≡ is_some (answer_in m q) = elsewhere q differs in
-        elim (cases_Bool (is_some (answer_in m q))) [
+        let now : is_some (known_answer n q) ≡ is_some (known_answer m q) = elsewhere q differs in
+        elim (cases_Bool (is_some (known_answer m q))) [
           | inl before ↦ rw (now, before) rest
           | inr before ↦ rw (now, before) (omega (arith, rest))
         ]
@@ -120,7 +120,7 @@ module _ (c : Comparison) where
       omega (arith, frames, pairs, less)
 
   -- another comparison begins
-  pub begun_work : (old new : Progress) (p : Pair) → InTables c p → answer_in old.pairs p ≡ None → Updates pair_cmp old.pairs new.pairs p (Some None) → new.frames.items ≡ old.frames.items ++ beginning p ∷ []
+  pub begun_work : (old new : Progress) (p : Pair) → InTables c p → known_answer old.pairs p ≡ None → Updates pair_cmp old.pairs new.pairs p (Some None) → new.frames.items ≡ old.frames.items ++ beginning p ∷ []
       → work c new ≤ work c old
   unfolding work
   begun_work old new p within none set more =

@@ -13,7 +13,7 @@ use Rattle.btf_model.specs.Walk.{Finding, walk_limit, unmodified_in, after_modif
 use Rattle.btf_model.specs.Refusal as refusals
 use Rattle.btf_model.specs.Refusal.{Refusal}
 use Rattle.btf_relocate_model.specs.Comparison.{Comparison, pair, pair_count, resolved_pair, same_pair}
-use Rattle.btf_relocate_model.specs.Types.{◌>>=◌, resolved, resolved_by, walk, walk_on}
+use Rattle.btf_relocate_model.specs.Types.{◌>>=◌, resolved, walked_id, walk, walk_on}
 use Rattle.btf_relocate_model.specs.declared.comparison.Pair.{Pair}
 use Rattle.btf_relocate_model.specs.declared.error.RelocationError.{RelocationError}
 use Rattle.btf_relocate.specs.Comparing.{pair_cmp, is_among, InTables, pairs_of, all_pairs, count_without, left_of}
@@ -208,7 +208,7 @@ module _ (records : List Record) where
   walk_within zero at = tt
   walk_within (suc n) at = ends_within n at (walk_within n) (slice_get records at) refl
 
-resolves_within : (records : List Record) (id end : ℕ) (o : Option (Result ℕ Refusal)) → Within records o → resolved_by id o ≡ Ok end → end < length records
+resolves_within : (records : List Record) (id end : ℕ) (o : Option (Result ℕ Refusal)) → Within records o → walked_id id o ≡ Ok end → end < length records
 resolves_within records id end (Some (Ok e)) in_it is = let same : e ≡ end = cc in subst (λ (n : ℕ). n < length records) same in_it
 resolves_within records id end (Some (Err (refusals.UnknownBtfType unknown))) in_it is = absurd (cc)
 resolves_within records id end o in_it is = absurd (cc)

@@ -5,7 +5,7 @@ use Rattle.std.proofs.lemmas.List.{append-nil, drop_all, map-append}
 use Rattle.std.specs.Prelude.{◌==◌, if◌then◌else◌}
 use Rattle.std.proofs.lemmas.Bool.Decides.{nat_tests}
 use Rattle.btf_model.specs.Table.{Table}
-use Rattle.btf_relocate_model.specs.Path.{Step, AtIndex, Place, Path, path_of, path_from, place_at, after, local_pointer}
+use Rattle.btf_relocate_model.specs.Path.{PathStep, AtIndex, Place, Path, path_of, path_from, place_at, after_step, local_pointer}
 use Rattle.btf_relocate_model.specs.Field.{root}
 use Rattle.btf_relocate_model.specs.Types.{◌>>=◌}
 use Rattle.btf_relocate_model.specs.declared.error.RelocationError.{RelocationError}
@@ -13,28 +13,28 @@ use Rattle.btf_relocate_model.specs.declared.error.RelocationError.TheVariants.{
 use Rattle.btf_relocate_model.specs.declared.field.Field.{Field}
 
 -- the steps so far, and then the path of the indices that are left
-abbrev pub finish : Table → List Step → Bool → Field → List ℕ → Result Path RelocationError
+abbrev pub finish : Table → List PathStep → Bool → Field → List ℕ → Result Path RelocationError
 finish t steps is_step f [] = if is_step then Ok (record { steps = steps; field = f }) else Err BadAccess
 finish t steps is_step f (i ∷ is) = place_at t f i >>= λ q. finish t (steps ++ option_to_list q.step) (is_some q.step) q.field is
 
-abbrev behind : List Step → Path → Path
+abbrev behind : List PathStep → Path → Path
 behind front p = record { steps = front ++ p.steps; field = p.field }
 
-behind_after : (front : List Step) (s : Option Step) (p : Path) → behind (front ++ option_to_list s) p ≡ behind front (after s p)
-behind_after front (Some s) p = ap (λ (xs : List Step). let path : Path = record { steps = xs; field = p.field } in path) (append_assoc front (s ∷ []) p.steps)
-behind_after front None p = ap (λ (xs : List Step). let path : Path = record { steps = xs ++ p.steps; field = p.field } in path) (append-nil front)
+behind_after : (front : List PathStep) (s : Option PathStep) (p : Path) → behind (front ++ option_to_list s) p ≡ behind front (after_step s p)
+behind_after front (Some s) p = ap (λ (xs : List PathStep). let path : Path = record { steps = xs; field = p.field } in path) (append_assoc front (s ∷ []) p.steps)
+behind_after front None p = ap (λ (xs : List PathStep). let path : Path = record { steps = xs ++ p.steps; field = p.field } in path) (append-nil front)
 
-behind_all : (front : List Step) (s : Option Step) (o : Result Path RelocationError) → (o >>= λ p. Ok (behind (front ++ option_to_list s) p)) ≡ ((o >>= λ p. Ok (after s p)) >>= λ p. Ok (behind front p))
+behind_all : (front : List PathStep) (s : Option PathStep) (o : Result Path RelocationError) → (o >>= λ p. Ok (behind (front ++ option_to_list s) p)) ≡ ((o >>= λ p. Ok (after_step s p)) >>= λ p. Ok (behind front p))
 behind_all front s (Ok p) = ap (λ (q : Path). Ok q) (behind_after front s p)
 behind_all front s (Err e) = refl
 
-finished : (t : Table) (front : List Step) (s : Option Step) (f : Field) (is : List ℕ)
+finished : (t : Table) (front : List PathStep) (s : Option PathStep) (f : Field) (is : List ℕ)
     → finish t (front ++ option_to_list s) (is_some s) f is ≡ (path_from t (record { field = f; step = s }) is >>= λ p. Ok (behind front p))
 finished t front (Some s) f [] = refl
 finished t front None f [] = refl
 finished t front s f (i ∷ is) =
     elim (place_at t f i) as (λ o. (o >>= λ q. finish t ((front ++ option_to_list s) ++ option_to_list q.step) (is_some q.step) q.field is)
-    ≡ ((o >>= λ q. path_from t q is >>= λ path. Ok (after s path)) >>= λ p. Ok (behind front p))) [
+    ≡ ((o >>= λ q. path_from t q is >>= λ path. Ok (after_step s path)) >>= λ p. Ok (behind front p))) [
       | Ok q ↦ finished t (front ++ option_to_list s) q.step q.field is ∙ behind_all front s (path_from t q is)
       | Err e ↦ refl
     ]
@@ -56,7 +56,7 @@ pub by_first : (is : List ℕ) → 0 < length is → is ≡ get_or is 0 0 ∷ dr
 by_first is some = drop-cons is 0 0 some
 
 -- one more index
-module _ (t : Table) (steps : List Step) (is_step : Bool) (f : Field) (is : List ℕ) (at : ℕ) (whole : Result Path RelocationError) where
+module _ (t : Table) (steps : List PathStep) (is_step : Bool) (f : Field) (is : List ℕ) (at : ℕ) (whole : Result Path RelocationError) where
   abbrev Left : Type 0
   Left = finish t steps is_step f (drop at is) ≡ whole
 
@@ -87,6 +87,6 @@ none_of [] b is so = refl
 none_of (i ∷ is) b same so = absurd (grind (arith, nat_tests))
 
 -- the steps after a push
-pub pushed : {A : Type 0} (g : A → Step) (old new : List A) (o : Option A) (q : Option Step) → new ≡ old ++ option_to_list o → q ≡ option_map g o → map g new ≡ map g old ++ option_to_list q
+pub pushed : {A : Type 0} (g : A → PathStep) (old new : List A) (o : Option A) (q : Option PathStep) → new ≡ old ++ option_to_list o → q ≡ option_map g o → map g new ≡ map g old ++ option_to_list q
 pushed g old new (Some x) q more same = rw (more, same) (map-append g old (x ∷ []))
 pushed g old new None q more same = rw (more, same, append-nil old) (sym (append-nil (map g old)))

@@ -7,7 +7,7 @@ use Rattle.btf_relocate.proofs.Compatibles.{from_err}
 use Rattle.std.specs.Option.{is_some}
 use Rattle.btf_relocate_model.specs.Candidates.{is_nameless}
 use Rattle.btf_relocate_model.specs.Path.{local_pointer}
-use Rattle.btf_relocate_model.specs.Resolution.{Setting, Question, is_local, question, resolution, answers, candidate_answer, resolved_by, validates, remaining, searched, type_word, value_of, local_match}
+use Rattle.btf_relocate_model.specs.Resolution.{TablePair, Question, is_local, question, resolution, answers, candidate_answer, resolved_by, validates, remaining, searched, type_word, value_of, local_match}
 use Rattle.btf_relocate_model.specs.Types.{◌>>=◌}
 use Rattle.btf_relocate_model.specs.declared.answer.Answer.{Answer}
 use Rattle.btf_relocate_model.specs.declared.error.RelocationError.{RelocationError}
@@ -32,12 +32,12 @@ module _ (id : ℕ) where
   not_expected {A} false o search e is = ap (λ (x : Result Value RelocationError). x >>= search) is
 
 -- a question without a local value
-pub unexpected : (g : Setting) (candidates words : List ℕ) (q : Question) (e : RelocationError) → question g.local g.target.order words ≡ Ok q → is_local q.kind ≡ false → expected_of g.local (type_word words) q ≡ Err e
+pub unexpected : (g : TablePair) (candidates words : List ℕ) (q : Question) (e : RelocationError) → question g.local g.target.order words ≡ Ok q → is_local q.kind ≡ false → expected_of g.local (type_word words) q ≡ Err e
     → resolution g candidates words ≡ Err e
 unexpected g candidates words q e asks searches is =
     rw (asks, searches) (not_expected (type_word words) (is_nameless q.name) (value_of local_pointer g.local q.kind (local_match q.subject)) (searched g q.kind q.subject candidates) e is)
 
-module _ (g : Setting) (candidates words : List ℕ) (q : Question) (expected : Value) where
+module _ (g : TablePair) (candidates words : List ℕ) (q : Question) (expected : Value) where
   pub record Asked : Type 0 where
     pub asks : question g.local g.target.order words ≡ Ok q
     pub searches : is_local q.kind ≡ false

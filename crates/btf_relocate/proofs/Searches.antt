@@ -7,10 +7,10 @@ use Rattle.btf_plain.specs.declared.items.BtfMember.{BtfMember}
 use Rattle.btf_model.specs.Record.{Record, member_bit_offset}
 use Rattle.btf_model.specs.Table.{Table}
 use Rattle.btf_relocate_model.specs.Candidates.{is_nameless}
-use Rattle.btf_relocate_model.specs.Field.{Member, member_field, members_of, moved}
+use Rattle.btf_relocate_model.specs.Field.{Member, member_field, members_of, moved_bit}
 use Rattle.btf_relocate_model.specs.Search as model
 use Rattle.btf_relocate_model.specs.Search.{is_end, first_member, else_later, further_out}
-use Rattle.btf_relocate_model.specs.Types.{◌>>=◌, name_or_none, record_at, resolved_record}
+use Rattle.btf_relocate_model.specs.Types.{◌>>=◌, name_or_none, required_record, resolved_record}
 use Rattle.btf_relocate_model.specs.declared.error.RelocationError.{RelocationError}
 use Rattle.btf_relocate_model.specs.declared.error.RelocationError.TheVariants.{TooDeep}
 use Rattle.btf_relocate_model.specs.declared.field.Field.{Field}
@@ -48,7 +48,7 @@ module _ (t : Table) (name : List ℕ) where
   seen (Err e) = Err e
 
   seen_outward : (bit : ℕ) (f : Field) (n : ℕ) → seen (outward bit f n) ≡ further_out bit (record { field = f; count = n })
-  seen_outward bit f n = elim (moved bit f.bit) as (λ o. seen (o >>= λ first. Ok (code.Member (record f { bit = first }) (suc n))) ≡ (o >>= λ first. Ok (Some (record { field = record f { bit = first }; count = suc n })))) [ Ok b ↦ refl | Err e ↦ refl ]
+  seen_outward bit f n = elim (moved_bit bit f.bit) as (λ o. seen (o >>= λ first. Ok (code.Member (record f { bit = first }) (suc n))) ≡ (o >>= λ first. Ok (Some (record { field = record f { bit = first }; count = suc n })))) [ Ok b ↦ refl | Err e ↦ refl ]
 
   abbrev Later : (ℕ → Result Found RelocationError) → Table → List ℕ → ℕ → ℕ → List Member → ℕ → Result Found RelocationError
   Later inside u other info levels ms = λ h. among inside u other info (max levels h) ms
@@ -107,7 +107,7 @@ module _ (t : Table) (name : List ℕ) where
     pub deep : suc e < h → levels ≤ suc e → p ≡ Err TooDeep
 
   outward_found : (bit : ℕ) (f : Field) (n h : ℕ) → outward bit f n ≡ Ok (code.Nothing h) → ⊥
-  outward_found bit f n h = elim (moved bit f.bit) as (λ o. (o >>= λ first. Ok (code.Member (record f { bit = first }) (suc n))) ≡ Ok (code.Nothing h) → ⊥) [ Ok b ↦ λ is. cc | Err e ↦ λ is. cc ]
+  outward_found bit f n h = elim (moved_bit bit f.bit) as (λ o. (o >>= λ first. Ok (code.Member (record f { bit = first }) (suc n))) ≡ Ok (code.Nothing h) → ⊥) [ Ok b ↦ λ is. cc | Err e ↦ λ is. cc ]
 
   named_found : (o : Result Field RelocationError) (h : ℕ) → (o >>= λ f. Ok (code.Member f 1)) ≡ Ok (code.Nothing h) → ⊥
   named_found (Ok f) h is = cc
@@ -311,13 +311,13 @@ module _ (t : Table) (name : List ℕ) where
         ap (λ (p : Result Field RelocationError). p >>= λ f. Ok (code.Member f 1)) field-is ∙ at_named here rest b c text is other same so
 
   -- a type that is remembered from now on
-  pub remember : (old new : BTreeMap ℕ ℕ) (end levels room : ℕ) (s : Record) → Updates nat_cmp old new end (Some levels) → Remembers t name old → record_at t end ≡ Ok s
+  pub remember : (old new : BTreeMap ℕ ℕ) (end levels room : ℕ) (s : Record) → Updates nat_cmp old new end (Some levels) → Remembers t name old → required_record t end ≡ Ok s
       → within room t name s ≡ Ok (code.Nothing levels) → Remembers t name new
   remember old new end levels room s updates before at lost id h found r is =
       elim (cases_eq end id) [
         | inl same ↦
             let levels-is : levels ≡ h = some_same (sym updates.1 ∙ ap (get nat_cmp new) same ∙ found) in
-            let record-is : s ≡ r = ok_same (sym at ∙ ap (record_at t) same ∙ is) in
+            let record-is : s ≡ r = ok_same (sym at ∙ ap (required_record t) same ∙ is) in
             subst (λ (x : Record). InVain t name x h) record-is (subst (λ (n : ℕ). InVain t name s n) levels-is (in_vain room s levels lost))
         | inr apart ↦ before id h (sym (updates.2 id (is_apart end id apart)) ∙ found) r is
       ]

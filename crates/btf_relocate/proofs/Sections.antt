@@ -6,7 +6,7 @@ use Rattle.btf_model.specs.Table.{Table}
 use Rattle.btf_relocate_model.proofs.Modules.{without_modules}
 use Rattle.btf_relocate_model.specs.Modules.{alone, relocated_section_among}
 use Rattle.btf_relocate_model.specs.Resolution.{resolution, type_word}
-use Rattle.btf_relocate_model.specs.Section.{candidates_of, candidates_after, code_after, left_after, outcome_of, patch_of, relocated_from, relocated_section}
+use Rattle.btf_relocate_model.specs.Section.{candidates_of, candidates_after, code_after, left_after, patched_outcome, patch_of, section_relocated_from, relocated_section}
 use Rattle.btf_relocate_model.specs.declared.error.RelocationError.{RelocationError}
 use Rattle.btf_relocate_model.specs.declared.error.RelocationError.TheVariants.{OutOfMemory}
 use Rattle.btf_relocate_model.specs.declared.instruction.Patched.{Patched}
@@ -29,7 +29,7 @@ module _ (shares : Bool) (local target : Table) where
 
   -- what the definition has is what becomes of each record
   as_relocates : (left : ℕ → List ℕ) (code : List ℕ) (records : List (List ℕ))
-      → Relocates shares local target left code records (relocated_from (setting local target) shares left code records).0 (relocated_from (setting local target) shares left code records).1
+      → Relocates shares local target left code records (section_relocated_from (setting local target) shares left code records).0 (section_relocated_from (setting local target) shares left code records).1
   as_relocates left code [] = (refl, refl)
   as_relocates left code (words ∷ records) =
       let g = setting local target in
@@ -38,9 +38,9 @@ module _ (shares : Bool) (local target : Table) where
         candidates_after (left (type_word words)) x,
         written_for x,
         (refl, refl),
-        ap outcome_of (same_patch code words x),
+        ap patched_outcome (same_patch code words x),
         subst (λ (p : Result (Patched × List ℕ) RelocationError). Relocates shares local target later (code_after code p) records
-            (relocated_from g shares later (code_after code (patch_of g code words x)) records).0 (relocated_from g shares later (code_after code (patch_of g code words x)) records).1)
+            (section_relocated_from g shares later (code_after code (patch_of g code words x)) records).0 (section_relocated_from g shares later (code_after code (patch_of g code words x)) records).1)
             (same_patch code words x) (as_relocates later (code_after code (patch_of g code words x)) records),
       )
 

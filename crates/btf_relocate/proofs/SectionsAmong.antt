@@ -13,7 +13,7 @@ use Rattle.btf_relocate_model.specs.Instruction.{patched_code}
 use Rattle.btf_relocate_model.specs.Modules as model
 use Rattle.btf_relocate_model.specs.Modules.{candidates_among, relocated_section_among, resolution_among}
 use Rattle.btf_relocate_model.specs.Resolution.{type_word, instruction_word}
-use Rattle.btf_relocate_model.specs.Section.{outcome_of, code_after, candidates_after, changed_at, patch_in, then_outcomes, relocated_by}
+use Rattle.btf_relocate_model.specs.Section.{patched_outcome, code_after, candidates_after, changed_at, patch_in, then_outcomes, relocated_by}
 use Rattle.btf_relocate_model.specs.declared.error.RelocationError.{RelocationError}
 use Rattle.btf_relocate_model.specs.declared.instruction.Patched.{Patched}
 use Rattle.btf_relocate_model.specs.declared.resolved.Resolved.{Resolved}
@@ -40,7 +40,7 @@ module _ (local : Table) (ts : model.Targets) (words : List ℕ) (before after :
   by_error e (inl memory, kept) = inl (ap (λ (x : RelocationError). let r : Result Patched RelocationError = Err x in r) memory)
   by_error e (inr same, kept) = inr (
     kept ∙ sym (ap (candidates_after (candidates_view before)) same),
-    sym (ap (λ (x : Result (Resolved × model.Candidates) RelocationError). outcome_of (patch_in local.order old words x)) same),
+    sym (ap (λ (x : Result (Resolved × model.Candidates) RelocationError). patched_outcome (patch_in local.order old words x)) same),
     sym (ap (λ (x : Result (Resolved × model.Candidates) RelocationError). code_after old (patch_in local.order old words x)) same),
   )
 
@@ -52,10 +52,10 @@ module _ (local : Table) (ts : model.Targets) (words : List ℕ) (before after :
   pub patched_as : (new : List ℕ) (o : Result Patched RelocationError) (r : Resolved) → Resolves (Ok r) → HasPatched old new (patched_code local.order r old (instruction_word words)) o → RelocatedAmong local ts words before after old new o
   patched_as new (Ok p) r known is =
       let patch = ap (patch_in local.order old words) known ∙ is in
-      inr (sym (ap (candidates_after (candidates_view before)) known), sym (ap outcome_of patch), sym (ap (code_after old) patch))
+      inr (sym (ap (candidates_after (candidates_view before)) known), sym (ap patched_outcome patch), sym (ap (code_after old) patch))
   patched_as new (Err e) r known is =
       let patch = ap (patch_in local.order old words) known ∙ is.0 in
-      inr (sym (ap (candidates_after (candidates_view before)) known), sym (ap outcome_of patch), is.1 ∙ sym (ap (code_after old) patch))
+      inr (sym (ap (candidates_after (candidates_view before)) known), sym (ap patched_outcome patch), is.1 ∙ sym (ap (code_after old) patch))
 
 -- the candidates of each type before the first record
 no_lists : (policy : CandidatePolicy) (local : Table) (ts : model.Targets) (m : BTreeMap ℕ Candidates) → IsEmpty m → left_among policy local ts m ≡ candidates_among local ts
@@ -105,8 +105,8 @@ module _ (policy : CandidatePolicy) (local : Table) (ts : model.Targets) where
       let p : model.Candidates → Result (Patched × List ℕ) RelocationError = λ x. patch_in local.order code words (r x) in
       ap (λ (x : model.Candidates). then_outcomes o (of_rest (left_with shares id x left) new records)) done.0
       ∙ ap (λ (x : Result Patched RelocationError). then_outcomes x (of_rest (left_with shares id (candidates_after (candidates_view c) (r (candidates_view c))) left) new records)) done.1
-      ∙ ap (λ (x : List ℕ). then_outcomes (outcome_of (p (candidates_view c))) (of_rest (left_with shares id (candidates_after (candidates_view c) (r (candidates_view c))) left) x records)) done.2
-      ∙ ap (λ (x : model.Candidates). then_outcomes (outcome_of (p x)) (of_rest (left_with shares id (candidates_after x (r x)) left) (code_after code (p x)) records)) own
+      ∙ ap (λ (x : List ℕ). then_outcomes (patched_outcome (p (candidates_view c))) (of_rest (left_with shares id (candidates_after (candidates_view c) (r (candidates_view c))) left) x records)) done.2
+      ∙ ap (λ (x : model.Candidates). then_outcomes (patched_outcome (p x)) (of_rest (left_with shares id (candidates_after x (r x)) left) (code_after code (p x)) records)) own
 
   pub continues : (start : List ℕ) (all : List (List ℕ)) (before more : List (Result Patched RelocationError)) (words : List ℕ) (c v : Candidates) (m taken n : BTreeMap ℕ Candidates) (code new : List ℕ) (o : Result Patched RelocationError) (i : ℕ)
       → Continues start all before m code (drop i all) → drop i all ≡ words ∷ drop (i + 1) all → more ≡ before ++ o ∷ []

@@ -4,7 +4,7 @@ use Rattle.std.specs.Prelude.{slice_get}
 use Rattle.btf_model.specs.Record.{Record}
 use Rattle.btf_model.specs.Refusal.{Refusal}
 use Rattle.btf_model.specs.Walk.{Finding, Ends, Leads, By, walk_limit, unmodified_in, Resolves}
-use Rattle.btf_relocate_model.specs.Types.{walk, walk_on, resolved_by}
+use Rattle.btf_relocate_model.specs.Types.{walk, walk_on, walked_id}
 
 pub walk_suc : {P A : Type 0} (find : P → Finding P A) (n : ℕ) (place : P) → walk find (suc n) place ≡ walk_on (walk find n) (find place)
 unfolding walk
@@ -30,8 +30,8 @@ unended {P = P} find (suc n) start end leads =
 
 -- what an id resolves to, by the relation and by the function
 pub resolved_is : (records : List Record) (id : ℕ) (answer : Result ℕ Refusal) → Resolves records id answer
-    → resolved_by id (walk (λ at. unmodified_in at (slice_get records at)) walk_limit id) ≡ resolved_by id (Some answer)
+    → walked_id id (walk (λ at. unmodified_in at (slice_get records at)) walk_limit id) ≡ walked_id id (Some answer)
 resolved_is records id answer (inl p) =
-    ap (resolved_by id) (walked (λ at. unmodified_in at (slice_get records at)) p.0 walk_limit id p.1 answer p.3 p.4 p.2)
+    ap (walked_id id) (walked (λ at. unmodified_in at (slice_get records at)) p.0 walk_limit id p.1 answer p.3 p.4 p.2)
 resolved_is records id answer (inr p) =
-    ap (resolved_by id) (unended (λ at. unmodified_in at (slice_get records at)) walk_limit id p.0 p.1) ∙ ap (λ (a : Result ℕ Refusal). resolved_by id (Some a)) (sym p.2)
+    ap (walked_id id) (unended (λ at. unmodified_in at (slice_get records at)) walk_limit id p.0 p.1) ∙ ap (λ (a : Result ℕ Refusal). walked_id id (Some a)) (sym p.2)

@@ -29,8 +29,8 @@ pair_cmp p q =
 abbrev pub Answers : Type 0
 Answers = BTreeMap Pair (Option Bool)
 
-abbrev pub answer_in : Answers → Pair → Option (Option Bool)
-answer_in m p = get pair_cmp m p
+abbrev pub known_answer : Answers → Pair → Option (Option Bool)
+known_answer m p = get pair_cmp m p
 
 abbrev pub is_among : Pair → List Pair → Bool
 is_among p ps = list_any (same_pair p) ps
@@ -62,12 +62,12 @@ left_of c begun = count_without begun (all_pairs (length c.local.records) (lengt
 
 -- none of these pairs has an answer
 abbrev pub Unanswered : Answers → List Pair → Type 0
-Unanswered m begun = (p : Pair) (b : Bool) → answer_in m p ≡ Some (Some b) → is_among p begun ≡ false
+Unanswered m begun = (p : Pair) (b : Bool) → known_answer m p ≡ Some (Some b) → is_among p begun ≡ false
 
 -- Each answer is the result of the comparison inside any comparisons that have no answer.
 abbrev pub AreResults : Comparison → Answers → Type 0
 AreResults c m =
-    (p : Pair) (b : Bool) → answer_in m p ≡ Some (Some b) → (room : ℕ) (begun : List Pair)
+    (p : Pair) (b : Bool) → known_answer m p ≡ Some (Some b) → (room : ℕ) (begun : List Pair)
     → left_of c begun ≤ room → Unanswered m begun → compared room c begun p ≡ Ok b
 
 -- ---- comparisons that are begun
@@ -96,7 +96,7 @@ starts fs = map (λ f. f.start) fs
 -- a comparison inside others that has no answer
 pub record IsBegun (c : Comparison) (m : Answers) (f : Frame) (fs : List Frame) : Type 0 where
   pub within : InTables c f.start
-  pub no_answer : answer_in m f.start ≡ Some None
+  pub no_answer : known_answer m f.start ≡ Some None
   pub once : is_among f.start (starts fs) ≡ false
 
 -- comparisons, each inside the next one, that wait for a pair; the last is of the root
@@ -110,13 +110,13 @@ AreBegun c root m [] answer = (b : Bool) × (answer ≡ Some b) × (compared (pa
 AreBegun c root m (f ∷ fs) answer = GoesOn c m f answer × IsBegun c m f fs × AreWaiting c root m fs f.start
 
 -- each pair without an answer has a comparison
-abbrev pub AreFound : Answers → List Frame → Type 0
-AreFound m fs = (p : Pair) → answer_in m p ≡ Some None → is_among p (starts fs) ≡ true
+abbrev pub HaveComparisons : Answers → List Frame → Type 0
+HaveComparisons m fs = (p : Pair) → known_answer m p ≡ Some None → is_among p (starts fs) ≡ true
 
 -- The comparison of a root is under way.
 pub record IsUnderWay (c : Comparison) (root : Pair) (m : Answers) (fs : List Frame) (a : Option Bool) : Type 0 where
   pub results : AreResults c m
-  pub found : AreFound m fs
+  pub found : HaveComparisons m fs
   pub begun : AreBegun c root m fs a
 
 -- ---- what the code does
@@ -128,13 +128,13 @@ beginning p = record { start = p; at = p; left = walk_limit; index = 0; other = 
 -- a pair was asked for: it has an answer, its comparison begins, or it is refused
 abbrev pub IsAsked : Comparison → Pair → Progress → Progress → Result (Option Bool) RelocationError → Type 0
 IsAsked c p old new (Ok (Some b)) =
-    (q : Pair) × (resolved_pair c p ≡ Ok q) × (answer_in old.pairs q ≡ Some (Some b)) × (new ≡ old)
+    (q : Pair) × (resolved_pair c p ≡ Ok q) × (known_answer old.pairs q ≡ Some (Some b)) × (new ≡ old)
 IsAsked c p old new (Ok None) =
-    (q : Pair) × (resolved_pair c p ≡ Ok q) × (answer_in old.pairs q ≡ None)
+    (q : Pair) × (resolved_pair c p ≡ Ok q) × (known_answer old.pairs q ≡ None)
     × Updates pair_cmp old.pairs new.pairs q (Some None) × (new.frames.items ≡ old.frames.items ++ beginning q ∷ [])
 IsAsked c p old new (Err e) =
     (e ≡ OutOfMemory) ⊎ ((resolved_pair c p ≡ Err e)
-    ⊎ ((q : Pair) × (resolved_pair c p ≡ Ok q) × (answer_in old.pairs q ≡ Some None)
+    ⊎ ((q : Pair) × (resolved_pair c p ≡ Ok q) × (known_answer old.pairs q ≡ Some None)
     × (e ≡ MaximumTypeDepthReached q.local)))
 
 -- the comparison goes on, or the root has this error
@@ -178,7 +178,7 @@ LeavesFewer f (next.Asks p k l) = place_left k l < place_left f.index f.other
 -- the number of these pairs that have not begun
 abbrev pub count_new : Answers → List Pair → ℕ
 count_new m [] = 0
-count_new m (p ∷ ps) = cond (is_some (answer_in m p)) (count_new m ps) (suc (count_new m ps))
+count_new m (p ∷ ps) = cond (is_some (known_answer m p)) (count_new m ps) (suc (count_new m ps))
 
 -- the steps that are left of a comparison that has not begun
 abbrev pub pair_steps : ℕ

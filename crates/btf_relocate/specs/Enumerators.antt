@@ -5,9 +5,9 @@ use Rattle.btf_model.specs.Table.{Variant}
 use Rattle.btf_relocate_model.specs.Enumerator.{enumerators_by}
 use Rattle.btf_relocate.specs.declared.enumerator.Enumerator.{Enumerator}
 
-abbrev pub variant_of : Enumerator → Variant
-variant_of e = record { name = e.name_offset; value = e.value }
+abbrev pub enumerator_variant : Enumerator → Variant
+enumerator_variant e = record { name = e.name_offset; value = e.value }
 
 -- the enumerators of a type
-abbrev pub enumerators_of : Record → List Variant
-enumerators_of r = enumerators_by (kind_of r.info) r.tail
+abbrev pub type_enumerators : Record → List Variant
+type_enumerators r = enumerators_by (kind_of r.info) r.tail

@@ -3,7 +3,7 @@ use Rattle.btf_model.specs.Walk as model
 use Rattle.btf_relocate.specs.declared.size.Extent.{Extent}
 use Rattle.btf_relocate.specs.declared.size.Extent.TheVariants.{Bytes, Times, Nothing}
 
-abbrev pub extent_of : Extent → model.Extent
-extent_of (Bytes bytes) = model.Bytes bytes
-extent_of (Times count type) = model.Times count type
-extent_of Nothing = model.NoExtent
+abbrev pub searched_extent : Extent → model.Extent
+searched_extent (Bytes bytes) = model.Bytes bytes
+searched_extent (Times count type) = model.Times count type
+searched_extent Nothing = model.NoExtent

@@ -59,11 +59,11 @@ abbrev pub is_named : Table → Record → Bool
 is_named t r = not (is_nameless (essential (name_or_none t r.name)))
 
 -- the ids of the types that have a name, in rising order
-abbrev pub named : Table → List ℕ
-named t = ids_from (is_named t) 1 (drop 1 t.records)
+abbrev pub ids_with_name : Table → List ℕ
+ids_with_name t = ids_from (is_named t) 1 (drop 1 t.records)
 
 -- The ids are those of the types that have a name, in the order of their keys. Those of one key rise.
 pub record IsIndex (t : Table) (ids : List ℕ) : Type 0 where
   pub sorted : IsSortedBy (λ x y. key_lt (key_of t x) (key_of t y)) ids
   pub same : (k : List ℕ × ℕ) → filter (λ id. ties key_lt k (key_of t id)) ids
-      ≡ filter (λ id. ties key_lt k (key_of t id)) (named t)
+      ≡ filter (λ id. ties key_lt k (key_of t id)) (ids_with_name t)

@@ -12,21 +12,21 @@ use Rattle.btf_relocate_model.specs.declared.error.RelocationError.TheVariants.{
 use Rattle.btf_relocate_model.specs.declared.field.Value.{Value}
 use Rattle.btf_relocate_model.specs.declared.kind.RelocationKind.{RelocationKind}
 use Rattle.btf_relocate_model.specs.declared.resolved.Resolved.{Resolved}
-use Rattle.btf_relocate.specs.Paths.{path_of}
+use Rattle.btf_relocate.specs.Paths.{model_path}
 use Rattle.btf_relocate.specs.declared.resolving.Question.{Question}
 use Rattle.btf_relocate.specs.declared.resolving.Subject.{Subject}
 use Rattle.btf_relocate.specs.declared.resolving.Subject.TheVariants.{OfField, OfType, OfEnumerator}
 
 abbrev pub subject_view : Subject → model.Subject
-subject_view (OfField path) = model.OfField (path_of path)
+subject_view (OfField path) = model.OfField (model_path path)
 subject_view (OfType id) = model.OfType id
 subject_view (OfEnumerator name value) = model.OfEnumerator name.now value
 
 abbrev pub question_view : Question → model.Question
 question_view q = record { kind = q.kind; name = q.name.now; subject = subject_view q.subject }
 
-abbrev pub answers_view : Option Answer × Vec ℕ → Option Answer × List ℕ
-answers_view p = (p.0, p.1.items)
+abbrev pub answer_ids_view : Option Answer × Vec ℕ → Option Answer × List ℕ
+answer_ids_view p = (p.0, p.1.items)
 
 -- the value of a question about a type of this id for the program's own table, where the kind needs a search
 abbrev pub expected_of : Table → ℕ → model.Question → Result Value RelocationError

@@ -6,10 +6,10 @@ use Rattle.std.specs.Str.{bytes_eq}
 use Rattle.btf_model.specs.Record.{Record, member_bit_offset}
 use Rattle.btf_model.specs.Table.{Table}
 use Rattle.btf_relocate_model.specs.Candidates.{is_nameless}
-use Rattle.btf_relocate_model.specs.Field.{Member, member_field, members_of, moved}
+use Rattle.btf_relocate_model.specs.Field.{Member, member_field, members_of, moved_bit}
 use Rattle.btf_relocate_model.specs.Search as model
 use Rattle.btf_relocate_model.specs.Search.{is_end}
-use Rattle.btf_relocate_model.specs.Types.{◌>>=◌, name_or_none, record_at, resolved_record}
+use Rattle.btf_relocate_model.specs.Types.{◌>>=◌, name_or_none, required_record, resolved_record}
 use Rattle.btf_relocate_model.specs.declared.error.RelocationError.{RelocationError}
 use Rattle.btf_relocate_model.specs.declared.error.RelocationError.TheVariants.{TooDeep}
 use Rattle.btf_relocate_model.specs.declared.field.Field.{Field}
@@ -22,13 +22,13 @@ found_of (code.Member f n) = Some (record { field = f; count = n })
 found_of (code.Nothing h) = None
 
 -- the number of members on the way to what was found, or of levels
-abbrev pub size_of : Found → ℕ
-size_of (code.Member f n) = n
-size_of (code.Nothing h) = h
+abbrev pub levels_of : Found → ℕ
+levels_of (code.Member f n) = n
+levels_of (code.Nothing h) = h
 
 -- what was found in a member without a name, which begins at this bit
 abbrev pub outward : ℕ → Field → ℕ → Result Found RelocationError
-outward bit f n = moved bit f.bit >>= λ first. Ok (code.Member (record f { bit = first }) (suc n))
+outward bit f n = moved_bit bit f.bit >>= λ first. Ok (code.Member (record f { bit = first }) (suc n))
 
 -- what was found in a member without a name; or what later members have, after so many levels
 abbrev pub or_later : ℕ → (ℕ → Result Found RelocationError) → Found → Result Found RelocationError
@@ -71,4 +71,4 @@ InVain t name r h =
 -- what is remembered of the types that were searched in vain
 abbrev pub Remembers : Table → List ℕ → BTreeMap ℕ ℕ → Type 0
 Remembers t name searched =
-    (id h : ℕ) → get nat_cmp searched id ≡ Some h → (r : Record) → record_at t id ≡ Ok r → InVain t name r h
+    (id h : ℕ) → get nat_cmp searched id ≡ Some h → (r : Record) → required_record t id ≡ Ok r → InVain t name r h

@@ -5,8 +5,8 @@ use Rattle.std.specs.Ordering.{nat_cmp}
 use Rattle.btf_model.specs.Table.{Table}
 use Rattle.btf_model.specs.declared.endianness.Endianness.{Endianness}
 use Rattle.btf_relocate_model.specs.Instruction.{patched_code}
-use Rattle.btf_relocate_model.specs.Resolution.{Setting, resolution, type_word, instruction_word}
-use Rattle.btf_relocate_model.specs.Section.{outcome_of, code_after, candidates_after, changed_at}
+use Rattle.btf_relocate_model.specs.Resolution.{TablePair, resolution, type_word, instruction_word}
+use Rattle.btf_relocate_model.specs.Section.{patched_outcome, code_after, candidates_after, changed_at}
 use Rattle.btf_relocate_model.specs.declared.error.RelocationError.{RelocationError}
 use Rattle.btf_relocate_model.specs.declared.instruction.Patched.{Patched}
 use Rattle.btf_relocate_model.specs.declared.resolved.Resolved.{Resolved}
@@ -32,7 +32,7 @@ abbrev pub left_with : {A : Type 0} → Bool → ℕ → A → (ℕ → A) → �
 left_with is_shared id after left = if is_shared then changed_at id after left else left
 
 -- two tables
-abbrev pub setting : Table → Table → Setting
+abbrev pub setting : Table → Table → TablePair
 setting local target = record { local = local; target = target }
 
 -- A record was resolved for candidates of which `after` remain.
@@ -56,6 +56,6 @@ Relocates is_shared local target left code (words ∷ records) [] new = ⊥
 Relocates is_shared local target left code (words ∷ records) (o ∷ outcomes) new =
     (after : List ℕ) × (r : Result Resolved RelocationError)
     × ResolvedFor local target words (left (type_word words)) after r
-    × (o ≡ outcome_of (patch_by local.order code words r))
+    × (o ≡ patched_outcome (patch_by local.order code words r))
     × Relocates is_shared local target (left_with is_shared (type_word words) after left)
     (code_after code (patch_by local.order code words r)) records outcomes new

@@ -5,7 +5,7 @@ use Rattle.std.specs.Ordering.{nat_cmp}
 use Rattle.btf_model.specs.Table.{Table}
 use Rattle.btf_relocate_model.specs.Modules as model
 use Rattle.btf_relocate_model.specs.Modules.{candidates_among, resolution_among}
-use Rattle.btf_relocate_model.specs.Section.{outcome_of, code_after, candidates_after, patch_in}
+use Rattle.btf_relocate_model.specs.Section.{patched_outcome, code_after, candidates_after, patch_in}
 use Rattle.btf_relocate_model.specs.declared.error.RelocationError.{RelocationError}
 use Rattle.btf_relocate_model.specs.declared.error.RelocationError.TheVariants.{OutOfMemory}
 use Rattle.btf_relocate_model.specs.declared.instruction.Patched.{Patched}
@@ -31,5 +31,5 @@ RelocatedAmong local ts words before after old new outcome =
     (outcome ≡ Err OutOfMemory)
     ⊎ (let r = resolution_among local ts (candidates_view before) words in
     let p = patch_in local.order old words r in
-    (candidates_view after ≡ candidates_after (candidates_view before) r) × (outcome ≡ outcome_of p)
+    (candidates_view after ≡ candidates_after (candidates_view before) r) × (outcome ≡ patched_outcome p)
     × (new ≡ code_after old p))

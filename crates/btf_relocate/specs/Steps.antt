@@ -109,15 +109,15 @@ abbrev pub rest : Compare → Comparison → Frame → Option Bool → Result Bo
 rest inner c f answer = rest_by f.left inner c f answer
 
 -- what comes next of a comparison
-abbrev pub after : Compare → Comparison → Frame → Next → Result Bool RelocationError
-after inner c f (next.Ends is_alike) = Ok is_alike
-after inner c f (next.GoesOn p) = walked (f.left - 1) c f.start.local inner p
-after inner c f (next.Asks p index other) =
+abbrev pub after_comparison : Compare → Comparison → Frame → Next → Result Bool RelocationError
+after_comparison inner c f (next.Ends is_alike) = Ok is_alike
+after_comparison inner c f (next.GoesOn p) = walked (f.left - 1) c f.start.local inner p
+after_comparison inner c f (next.Asks p index other) =
     inner p >>= λ is_alike. rest inner c (record f { index = index; other = other }) (Some is_alike)
 
 -- the next step of a comparison leaves its result the same
 abbrev pub Continues : Comparison → Frame → Option Bool → Result Next RelocationError → Type 0
-Continues c f answer (Ok n) = (inner : Compare) → after inner c f n ≡ rest inner c f answer
+Continues c f answer (Ok n) = (inner : Compare) → after_comparison inner c f n ≡ rest inner c f answer
 Continues c f answer (Err e) = (e ≡ OutOfMemory) ⊎ ((inner : Compare) → rest inner c f answer ≡ Err e)
 
 -- a member of the target with the name, and the members after it

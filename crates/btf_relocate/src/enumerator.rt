@@ -4,7 +4,7 @@ ghost use Rattle.std.specs.Prelude.{◌≡◌, Ok, Err, length, slice_get, Match
 ghost use Rattle.std.specs.Option.{option_map};
 ghost use Rattle.btf_records.specs.BtfType.{record_of};
 ghost use Rattle.btf_relocate_model.specs.Enumerator as model;
-ghost use Rattle.btf_relocate.specs.Enumerators.{variant_of, enumerators_of};
+ghost use Rattle.btf_relocate.specs.Enumerators.{enumerator_variant, type_enumerators};
 
 use crate::instruction::sign_extended_32;
 use crate::lookup::{name_at, resolved_type};
@@ -25,8 +25,8 @@ pub struct Enumerator {
 impl Enumerator {
     /// The enumerator of a type at an index; `None` if the type has none there.
     pub fn at(btf_type: &BtfType, index: usize) -> Option<Enumerator>
-        ensures { option_map variant_of result
-            ≡ slice_get (enumerators_of (record_of btf_type.now)) index }
+        ensures { option_map enumerator_variant result
+            ≡ slice_get (type_enumerators (record_of btf_type.now)) index }
     {
         // Only a use of the kind proves that the info word has it.
         let _ = btf_type.kind();
@@ -51,7 +51,7 @@ pub fn enumerator_at(
     index: u32,
 ) -> Result<(Enumerator, &[u8]), RelocationError>
     ensures { MatchResult result
-        (λ p. model.enumerator_at table.now type_id index ≡ Ok (variant_of p.0, p.1.now))
+        (λ p. model.enumerator_at table.now type_id index ≡ Ok (enumerator_variant p.0, p.1.now))
         (λ e. model.enumerator_at table.now type_id index ≡ Err e) }
 {
     let btf_type = resolved_type(table, type_id)?;
@@ -69,7 +69,8 @@ pub fn find_enumerator(
     name: &[u8],
 ) -> Result<Option<Enumerator>, RelocationError>
     ensures { MatchResult result
-        (λ o. model.find_enumerator table.now type_id name.now ≡ Ok (option_map variant_of o))
+        (λ o. model.find_enumerator table.now type_id name.now ≡ Ok
+        (option_map enumerator_variant o))
         (λ e. model.find_enumerator table.now type_id name.now ≡ Err e) }
 {
     let btf_type = resolved_type(table, type_id)?;
@@ -87,7 +88,7 @@ pub fn find_enumerator(
 
 /// The number of enumerators of a type.
 pub fn count(btf_type: &BtfType) -> usize
-    ensures { result ≡ length (enumerators_of (record_of btf_type.now)) }
+    ensures { result ≡ length (type_enumerators (record_of btf_type.now)) }
 {
     // Only a use of the kind proves that the info word has it.
     let _ = btf_type.kind();

@@ -17,7 +17,7 @@ use btf_table::Btf;
 
 /// The first bit after a number of bits.
 pub fn moved(bit: u32, by: u64) -> Result<u32, RelocationError>
-    ensures { result ≡ model.moved bit by }
+    ensures { result ≡ model.moved_bit bit by }
 {
     match u64::from(bit).checked_add(by) {
         Some(sum) if sum < 0x1_0000_0000 => Ok(sum as u32),

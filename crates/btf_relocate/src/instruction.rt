@@ -114,7 +114,7 @@ pub fn sign_extended_32(number: u32) -> u64
 
 /// The two bits of an opcode for a number of bytes.
 fn size_bits(size: u32) -> Option<u8>
-    ensures { result ≡ model.size_bits size }
+    ensures { result ≡ model.width_bits size }
 {
     match size {
         4 => Some(0),

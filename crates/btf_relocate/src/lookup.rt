@@ -14,9 +14,9 @@ use btf_table::{Btf, name_bytes};
 /// The type of an id.
 pub fn type_at(table: &Btf, type_id: u32) -> Result<&BtfType, RelocationError>
     ensures { MatchResult result
-        (λ t. (model.record_at table.now type_id ≡ Ok (record_of t.now))
+        (λ t. (model.required_record table.now type_id ≡ Ok (record_of t.now))
         × (kind_of (record_of t.now).info ≡ Some (type_kind t.now)))
-        (λ e. model.record_at table.now type_id ≡ Err e) }
+        (λ e. model.required_record table.now type_id ≡ Err e) }
 {
     match table.type_by_id(type_id) {
         Ok(btf_type) => Ok(btf_type),
@@ -27,7 +27,7 @@ pub fn type_at(table: &Btf, type_id: u32) -> Result<&BtfType, RelocationError>
 /// The error of a walk over modifiers that begins at this id.
 fn walk_error(error: &BtfError, type_id: u32) -> RelocationError
     ensures { IfSome (refusal_of error.now)
-        (λ refusal. model.resolved_by type_id (Some (Err refusal)) ≡ Err result) }
+        (λ refusal. model.walked_id type_id (Some (Err refusal)) ≡ Err result) }
 {
     match error {
         BtfError::UnknownBtfType { type_id } => RelocationError::UnknownBtfType {

@@ -7,7 +7,7 @@ ghost use Rattle.btf_relocate_model.specs.Types.{pointer_size};
 ghost use Rattle.btf_relocate.specs.Gives.{GivesBy};
 ghost use Rattle.btf_relocate.specs.Matching.{reached};
 ghost use Rattle.btf_relocate.specs.Paths.{step_of};
-ghost use Rattle.btf_relocate.specs.Searching.{found_of, size_of};
+ghost use Rattle.btf_relocate.specs.Searching.{found_of, levels_of};
 
 use crate::compatible::are_compatible;
 use crate::field::{element, moved, placed};

@@ -3,7 +3,7 @@
 ghost use Rattle.std.specs.Prelude.{◌≡◌, Ok, Err, map, MatchResult};
 ghost use Rattle.btf_relocate_model.specs.Path as model;
 ghost use Rattle.btf_relocate.specs.Gives.{GivesBy};
-ghost use Rattle.btf_relocate.specs.Paths.{place_of, path_of};
+ghost use Rattle.btf_relocate.specs.Paths.{place_of, model_path};
 
 use crate::access::Access;
 use crate::field::{element, member, placed};
@@ -50,7 +50,7 @@ impl<'t> Path<'t> {
         type_id: u32,
         access: &Access,
     ) -> Result<Path<'t>, RelocationError>
-        ensures { GivesBy path_of (model.path_of table.now type_id access.now) result }
+        ensures { GivesBy model_path (model.path_of table.now type_id access.now) result }
     {
         let indices = access.indices();
         if indices.is_empty() {

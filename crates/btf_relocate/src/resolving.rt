@@ -5,7 +5,7 @@ ghost use Rattle.std.specs.Option.{option_map};
 ghost use Rattle.btf_relocate_model.specs.Resolution as model;
 ghost use Rattle.btf_relocate_model.specs.Types.{pointer_size};
 ghost use Rattle.btf_relocate.specs.Gives.{GivesBy};
-ghost use Rattle.btf_relocate.specs.Resolving.{subject_view, question_view, answer_at, answers_view, expected_of, HasResolved};
+ghost use Rattle.btf_relocate.specs.Resolving.{subject_view, question_view, answer_at, answer_ids_view, expected_of, HasResolved};
 
 use crate::access::Access;
 use crate::enumerator::{enumerator_at, find_enumerator};
@@ -241,7 +241,8 @@ pub fn answers(
     first: Option<Answer>,
     candidates: &[u32],
 ) -> Result<(Option<Answer>, Vec<u32>), RelocationError>
-    ensures { GivesBy answers_view (model.answers (answer_at local.now target.now question.now.kind
+    ensures { GivesBy answer_ids_view
+        (model.answers (answer_at local.now target.now question.now.kind
         (subject_view question.now.subject)) first candidates.now) result }
 {
     let kind = question.kind;

@@ -5,7 +5,7 @@ ghost use Rattle.std.specs.Result.{OnOk};
 ghost use Rattle.btf_records.specs.BtfType.{record_of};
 ghost use Rattle.btf_relocate_model.specs.Search as model;
 ghost use Rattle.btf_relocate.specs.Gives.{Gives, GivesBy};
-ghost use Rattle.btf_relocate.specs.Searching.{within, from_id, found_of, size_of, Remembers};
+ghost use Rattle.btf_relocate.specs.Searching.{within, from_id, found_of, levels_of, Remembers};
 
 use crate::field::{bits_of, member_field, members, moved};
 use crate::lookup::{name_or_none, resolved, type_at};
@@ -35,7 +35,7 @@ pub fn find_member(
     depth: u32,
 ) -> Result<Found, RelocationError>
     ensures found { GivesBy found_of (model.search depth table.now name.now type_id) result }
-    ensures small { IfOk result (λ f. size_of f ≤ depth) }
+    ensures small { IfOk result (λ f. levels_of f ≤ depth) }
 {
     let mut searched = BTreeMap::new(alloc);
     search(table, name, &mut searched, type_id, depth)
@@ -55,7 +55,7 @@ fn search(
 ) -> Result<Found, RelocationError>
     requires { Remembers table.now name.now searched.old }
     ensures found { Gives (from_id depth table.now name.now type_id) result }
-    ensures small { IfOk result (λ f. size_of f ≤ depth) }
+    ensures small { IfOk result (λ f. levels_of f ≤ depth) }
     ensures remembers { OnOk result (Remembers table.now name.now searched.new) }
 {
     let end = resolved(table, type_id)?;
@@ -84,7 +84,7 @@ fn search_members(
 ) -> Result<Found, RelocationError>
     requires { Remembers table.now name.now searched.old }
     ensures found { Gives (within depth table.now name.now (record_of btf_type.now)) result }
-    ensures small { IfOk result (λ f. size_of f ≤ depth) }
+    ensures small { IfOk result (λ f. levels_of f ≤ depth) }
     ensures remembers { OnOk result (Remembers table.now name.now searched.new) }
 {
     let members = members(btf_type);

@@ -4,7 +4,7 @@ ghost use Rattle.std.specs.Prelude.{◌≡◌, ◌<◌, ◌*◌, ◌^◌, ◌≤
 ghost use Rattle.btf_model.specs.Record.{kind_of};
 ghost use Rattle.btf_records.specs.BtfType.{record_of};
 ghost use Rattle.btf_relocate_model.specs.Types as model;
-ghost use Rattle.btf_relocate.specs.Extent.{extent_of};
+ghost use Rattle.btf_relocate.specs.Extent.{searched_extent};
 
 use btf_records::BtfType;
 use btf_relocate_model::RelocationError;
@@ -49,7 +49,7 @@ pub fn size_of(table: &Btf, pointer_size: u32, type_id: u32) -> Result<u32, Relo
 
 /// What a type gives for its size.
 fn extent_at(btf_type: &BtfType, pointer_size: u32) -> Extent
-    ensures { extent_of result ≡ model.extent_with pointer_size
+    ensures { searched_extent result ≡ model.extent_with pointer_size
         (kind_of (record_of btf_type.now).info) (record_of btf_type.now) }
 {
     // Only a use of the kind proves that the info word has it.

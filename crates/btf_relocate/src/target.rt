@@ -7,7 +7,7 @@ ghost use Rattle.btf_model.specs.Record.{kind_number, kind_of};
 ghost use Rattle.btf_plain.specs.Kind as kinds;
 ghost use Rattle.btf_plain.specs.declared.error.BtfError.TheVariants.{OutOfMemory};
 ghost use Rattle.btf_relocate_model.specs.Candidates.{compared_number, candidates};
-ghost use Rattle.btf_relocate.specs.Index.{IsIndex, kind_code, key_of, key_cmp, named};
+ghost use Rattle.btf_relocate.specs.Index.{IsIndex, kind_code, key_of, key_cmp, ids_with_name};
 ghost use Rattle.btf_relocate.specs.TargetIndex.{IndexesTable, index_in};
 ghost use Rattle.btf_relocate.specs.Entries.{AreEntries};
 ghost use Rattle.btf_relocate_model.specs.Types as model;
@@ -207,7 +207,7 @@ pub fn compared_number(kind: BtfKind) -> u32
 
 /// The types that have a name, in rising order of their ids.
 fn named_types(alloc: Global, table: &Btf) -> Result<Vec<Entry<'_>>, AllocError>
-    ensures { IfOk result (λ entries. AreEntries table.now entries.items (named table.now)) }
+    ensures { IfOk result (λ entries. AreEntries table.now entries.items (ids_with_name table.now)) }
 {
     let mut entries = Vec::with_capacity(alloc, type_count(table) as usize)?;
     for type_id in 1..type_count(table) {

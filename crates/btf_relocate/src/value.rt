@@ -178,7 +178,7 @@ fn left_shift(order: Endianness, load: &Load) -> Result<u64, RelocationError>
 
 /// Whether a type is a signed INT, ENUM or ENUM64.
 pub fn is_signed(btf_type: &BtfType) -> bool
-    ensures { result ≡ model.is_signed (kind_of (record_of btf_type.now).info)
+    ensures { result ≡ model.is_signed_type (kind_of (record_of btf_type.now).info)
         (record_of btf_type.now) }
 {
     // Only a use of the kind proves that the info word has it.

@@ -15,14 +15,14 @@ use Rattle.btf_relocate_model.specs.Access.{access_of}
 use Rattle.btf_relocate_model.specs.Candidates.{compared_number, is_nameless}
 use Rattle.btf_relocate_model.specs.Comparison.{types_alike}
 use Rattle.btf_relocate_model.specs.Compatible.{named_alike, alike_by, is_composite_kind, alike, compatible_by, compatible_within, compatible}
-use Rattle.btf_relocate_model.specs.Enumerator.{enumerators, named, enumerator_at}
+use Rattle.btf_relocate_model.specs.Enumerator.{enumerators, named_enumerator, enumerator_at}
 use Rattle.btf_relocate_model.specs.Field.{root, member}
 use Rattle.btf_relocate_model.specs.Laws.{SameOrUnread, with_strings, MatchesAlike, StringsMayBeAppended}
 use Rattle.btf_relocate_model.specs.Match.{in_place, if_compatible, member_after, match_step, match_from, match_path, path_limit}
-use Rattle.btf_relocate_model.specs.Path.{Place, Step, AtIndex, ToMember, local_pointer, nameless_place, named_place, member_place, place_by, place_at, after, path_from, path_of}
-use Rattle.btf_relocate_model.specs.Resolution.{Setting, Question, Topic, Fields, Types, Enumerators, Subject, OfField, OfType, OfEnumerator, indices_or_bad, enumerator_subject, topic_of, question, answered, searched, answers, answer_of, candidate_answer, joined, seen_as, same_order, subject_by, subject_of, is_local, local_match, rule_of, match_of, type_if, value_of, resolved_by, remaining, validates, kind_at, kind_word, type_word, access_word}
+use Rattle.btf_relocate_model.specs.Path.{Place, PathStep, AtIndex, ToMember, local_pointer, nameless_place, named_place, member_place, place_by, place_at, after_step, path_from, path_of}
+use Rattle.btf_relocate_model.specs.Resolution.{TablePair, Question, Topic, Fields, Types, Enumerators, Subject, OfField, OfType, OfEnumerator, indices_or_bad, enumerator_subject, topic_of, question, answered, searched, answers, answer_of, candidate_answer, joined_answer, seen_as, same_order, subject_by, subject_of, is_local, local_match, rule_of, match_of, type_if, value_of, resolved_by, remaining, validates, relocation_kind_at, kind_word, type_word, access_word}
 use Rattle.btf_relocate_model.specs.Search.{Found, search}
-use Rattle.btf_relocate_model.specs.Types.{◌>>=◌, record_at, name_at, readable, resolved_record, pointer_size}
+use Rattle.btf_relocate_model.specs.Types.{◌>>=◌, required_record, name_at, readable, resolved_record, pointer_size}
 use Rattle.btf_relocate_model.specs.declared.answer.Answer.{Answer}
 use Rattle.btf_relocate_model.specs.declared.answer.Match.{Match}
 use Rattle.btf_relocate_model.specs.declared.answer.Match.TheVariants.{AtField, AtType, AtEnumerator}
@@ -84,9 +84,9 @@ place_same more t around index None = inl refl
 path_same : (more : List ℕ) (t : Table) (is : List ℕ) (p : Place) → SameOrUnread t.strings (path_from t p is) (path_from (with_strings more t) p is)
 path_same more t [] p = inl refl
 path_same more t (i ∷ is) p =
-    bind t.strings (place_at t p.field i) (place_at (with_strings more t) p.field i) (λ q. path_from t q is >>= λ path. Ok (after p.step path)) (λ q. path_from (with_strings more t) q is >>= λ path. Ok (after p.step path))
+    bind t.strings (place_at t p.field i) (place_at (with_strings more t) p.field i) (λ q. path_from t q is >>= λ path. Ok (after_step p.step path)) (λ q. path_from (with_strings more t) q is >>= λ path. Ok (after_step p.step path))
     (after_same t.strings (member t p.field i) (place_by t p.field i) (place_by (with_strings more t) p.field i) (place_same more t p.field i))
-    (λ q. bind t.strings (path_from t q is) (path_from (with_strings more t) q is) (λ path. Ok (after p.step path)) (λ path. Ok (after p.step path)) (path_same more t is q) (λ path. inl refl))
+    (λ q. bind t.strings (path_from t q is) (path_from (with_strings more t) q is) (λ path. Ok (after_step p.step path)) (λ path. Ok (after_step p.step path)) (path_same more t is q) (λ path. inl refl))
 
 access_same : (more : List ℕ) (t : Table) (id : ℕ) (is : List ℕ) → SameOrUnread t.strings (path_of t id is) (path_of (with_strings more t) id is)
 access_same more t id [] = inl refl
@@ -96,7 +96,7 @@ access_same more t id (i ∷ is) =
 
 -- ---- enumerators
 
-named_same : (more : List ℕ) (t : Table) (o : Option Variant) → SameOrUnread t.strings (named t o) (named (with_strings more t) o)
+named_same : (more : List ℕ) (t : Table) (o : Option Variant) → SameOrUnread t.strings (named_enumerator t o) (named_enumerator (with_strings more t) o)
 named_same more t (Some v) =
     bind t.strings (name_at t v.name) (name_at (with_strings more t) v.name) (λ name. Ok (v, name)) (λ name. Ok (v, name)) (name_same more t v.name) (λ name. inl refl)
 named_same more t None = inl refl
@@ -121,9 +121,9 @@ subject_same more t Fields id access =
 question_same : (more : List ℕ) (t : Table) (order : Endianness) (words : List ℕ) → SameOrUnread t.strings (question t order words) (question (with_strings more t) order words)
 question_same more t order words =
     let new = with_strings more t in
-    after_same t.strings (kind_at (kind_word words)) _ _ (λ k.
+    after_same t.strings (relocation_kind_at (kind_word words)) _ _ (λ k.
     by_test t.strings (not (same_order t.order order)) (Err OrderMismatch) (Err OrderMismatch) _ _ (inl refl)
-    (after_same t.strings (record_at t (type_word words)) _ _ (λ r.
+    (after_same t.strings (required_record t (type_word words)) _ _ (λ r.
     bind t.strings (name_at t r.name) (name_at new r.name) _ _ (name_same more t r.name) (λ name.
     bind t.strings (name_at t (access_word words)) (name_at new (access_word words)) _ _ (name_same more t (access_word words)) (λ access.
     bind t.strings (subject_of t k (type_word words) access) (subject_of new k (type_word words) access) _ _ (subject_same more t (topic_of k) (type_word words) access) (λ s. inl refl))))))
@@ -167,12 +167,12 @@ member_after_same more t target type at (Some found) =
     bind t.strings (compatible t target type f.field.type_id) (compatible (with_strings more t) target type f.field.type_id) _ _ (compatible_same more t target walk_limit type type f.field.type_id) (λ is. inl refl))
 member_after_same more t target type at None = inl refl
 
-step_same : (more : List ℕ) (t : Table) (pointer : ℕ) (target : Table) (at : Found) (s : Step) → SameOrUnread t.strings (match_step t pointer target at s) (match_step (with_strings more t) pointer target at s)
+step_same : (more : List ℕ) (t : Table) (pointer : ℕ) (target : Table) (at : Found) (s : PathStep) → SameOrUnread t.strings (match_step t pointer target at s) (match_step (with_strings more t) pointer target at s)
 step_same more t pointer target at (AtIndex index) = inl refl
 step_same more t pointer target at (ToMember name type) =
     after_same t.strings (search (path_limit - at.count) target name at.field.type_id) (member_after t target type at) (member_after (with_strings more t) target type at) (member_after_same more t target type at)
 
-steps_same : (more : List ℕ) (t : Table) (pointer : ℕ) (target : Table) (ss : List Step) (o : Option Found) → SameOrUnread t.strings (match_from t pointer target ss o) (match_from (with_strings more t) pointer target ss o)
+steps_same : (more : List ℕ) (t : Table) (pointer : ℕ) (target : Table) (ss : List PathStep) (o : Option Found) → SameOrUnread t.strings (match_from t pointer target ss o) (match_from (with_strings more t) pointer target ss o)
 steps_same more t pointer target [] (Some at) = inl refl
 steps_same more t pointer target [] None = inl refl
 steps_same more t pointer target (s ∷ ss) None = inl refl
@@ -180,20 +180,20 @@ steps_same more t pointer target (s ∷ ss) (Some at) =
     bind t.strings (match_step t pointer target at s) (match_step (with_strings more t) pointer target at s) (match_from t pointer target ss) (match_from (with_strings more t) pointer target ss)
     (step_same more t pointer target at s) (steps_same more t pointer target ss)
 
-path_match_same : (more : List ℕ) (t : Table) (pointer : ℕ) (target : Table) (ss : List Step) (c : ℕ) → SameOrUnread t.strings (match_path t pointer target ss c) (match_path (with_strings more t) pointer target ss c)
+path_match_same : (more : List ℕ) (t : Table) (pointer : ℕ) (target : Table) (ss : List PathStep) (c : ℕ) → SameOrUnread t.strings (match_path t pointer target ss c) (match_path (with_strings more t) pointer target ss c)
 path_match_same more t pointer target (AtIndex index ∷ ss) c =
     after_same t.strings (root pointer target c index) _ _ (λ f. steps_same more t pointer target ss (Some (record { field = f; count = 1 })))
 path_match_same more t pointer target (ToMember name type ∷ ss) c = inl refl
 path_match_same more t pointer target [] c = inl refl
 
 -- the comparison of a kind, where that of `TypeMatches` is the same
-compares_same : (more : List ℕ) (g : Setting) (k : RelocationKind) → (k ≡ TypeMatches → MatchesAlike more g) → (id c : ℕ)
+compares_same : (more : List ℕ) (g : TablePair) (k : RelocationKind) → (k ≡ TypeMatches → MatchesAlike more g) → (id c : ℕ)
     → SameOrUnread g.local.strings (types_alike (record { rule = rule_of k; local = g.local; target = g.target }) id c)
     (types_alike (record { rule = rule_of k; local = with_strings more g.local; target = g.target }) id c)
 compares_same more g TypeMatches matches id c = matches refl id c
 compares_same more g k matches id c = inl (types_alike_same more g.local g.target id c)
 
-match_same : (more : List ℕ) (g : Setting) (k : RelocationKind) → (k ≡ TypeMatches → MatchesAlike more g) → (pointer : ℕ) (s : Subject) (c : ℕ)
+match_same : (more : List ℕ) (g : TablePair) (k : RelocationKind) → (k ≡ TypeMatches → MatchesAlike more g) → (pointer : ℕ) (s : Subject) (c : ℕ)
     → SameOrUnread g.local.strings (match_of k g.local pointer g.target s c) (match_of k (with_strings more g.local) pointer g.target s c)
 match_same more g k matches pointer (OfField path) c =
     bind g.local.strings (match_path g.local pointer g.target path.steps c) (match_path (with_strings more g.local) pointer g.target path.steps c) (seen_as AtField) (seen_as AtField) (path_match_same more g.local pointer g.target path.steps c) (λ o. inl refl)
@@ -205,7 +205,7 @@ match_same more g k matches pointer (OfEnumerator name value) c = inl refl
 all_same : (strings : List ℕ) (f h : ℕ → Result (Option Answer) RelocationError) → ((c : ℕ) → SameOrUnread strings (f c) (h c)) → (cs : List ℕ) (first : Option Answer) → SameOrUnread strings (answers f first cs) (answers h first cs)
 all_same strings f h each [] first = inl refl
 all_same strings f h each (c ∷ cs) first =
-    bind strings (f c) (h c) _ _ (each c) (λ a. after_same strings (joined first a) _ _ (λ next.
+    bind strings (f c) (h c) _ _ (each c) (λ a. after_same strings (joined_answer first a) _ _ (λ next.
     bind strings (answers f next cs) (answers h next cs) _ _ (all_same strings f h each cs next) (λ rest. inl refl)))
 
 -- ---- values
@@ -229,10 +229,10 @@ resolved_same more t target k is_validated expected None = refl
 
 -- ---- the whole record
 
-abbrev appended : List ℕ → Setting → Setting
+abbrev appended : List ℕ → TablePair → TablePair
 appended more g = record g { local = with_strings more g.local }
 
-searched_same : (more : List ℕ) (g : Setting) (k : RelocationKind) → (k ≡ TypeMatches → MatchesAlike more g) → (s : Subject) (cs : List ℕ) (expected : Value) → SameOrUnread g.local.strings (searched g k s cs expected) (searched (appended more g) k s cs expected)
+searched_same : (more : List ℕ) (g : TablePair) (k : RelocationKind) → (k ≡ TypeMatches → MatchesAlike more g) → (s : Subject) (cs : List ℕ) (expected : Value) → SameOrUnread g.local.strings (searched g k s cs expected) (searched (appended more g) k s cs expected)
 searched_same more g k matches s cs expected =
     bind g.local.strings (answers (candidate_answer g k s) None cs) (answers (candidate_answer (appended more g) k s) None cs) _ _
     (all_same g.local.strings (candidate_answer g k s) (candidate_answer (appended more g) k s) (λ c.
@@ -240,7 +240,7 @@ searched_same more g k matches s cs expected =
     (match_same more g k matches (pointer_size g.target) s c) (λ m. inl refl)) cs None)
     (λ found. inl (ap (λ (r : Resolved). Ok (r, remaining cs found.0 found.1)) (resolved_same more g.local g.target k (validates k s) expected found.0)))
 
-answered_same : (more : List ℕ) (g : Setting) (id : ℕ) (cs : List ℕ) (q : Question) → (q.kind ≡ TypeMatches → MatchesAlike more g) → SameOrUnread g.local.strings (answered g id cs q) (answered (appended more g) id cs q)
+answered_same : (more : List ℕ) (g : TablePair) (id : ℕ) (cs : List ℕ) (q : Question) → (q.kind ≡ TypeMatches → MatchesAlike more g) → SameOrUnread g.local.strings (answered g id cs q) (answered (appended more g) id cs q)
 answered_same more g id cs q matches =
     by_test g.local.strings (is_local q.kind) _ _ _ _ (inl refl)
     (by_test g.local.strings (is_nameless q.name) (Err (AnonymousType id)) (Err (AnonymousType id)) _ _ (inl refl)
@@ -248,16 +248,16 @@ answered_same more g id cs q matches =
     (inl (value_same more g.local q.kind (local_match q.subject))) (searched_same more g q.kind matches q.subject cs)))
 
 -- the kind of a question is the kind of its record
-kind_is : (t : Table) (order : Endianness) (words : List ℕ) (q : Question) → question t order words ≡ Ok q → kind_at (kind_word words) ≡ Ok q.kind
+kind_is : (t : Table) (order : Endianness) (words : List ℕ) (q : Question) → question t order words ≡ Ok q → relocation_kind_at (kind_word words) ≡ Ok q.kind
 kind_is t order words q is =
-    let k = ok_of (kind_at (kind_word words)) _ q is in k.1 ∙ ap {B = Result RelocationKind RelocationError} (λ (x : RelocationKind). Ok x) (by_order k.0 (not (same_order t.order order)) k.2)
+    let k = ok_of (relocation_kind_at (kind_word words)) _ q is in k.1 ∙ ap {B = Result RelocationKind RelocationError} (λ (x : RelocationKind). Ok x) (by_order k.0 (not (same_order t.order order)) k.2)
   where
     by_order : (k : RelocationKind) (test : Bool)
-        → (if test then Err OrderMismatch else (record_at t (type_word words) >>= λ r. name_at t r.name >>= λ name. name_at t (access_word words) >>= λ access. subject_of t k (type_word words) access >>= λ s. Ok (record { kind = k; name = name; subject = s }))) ≡ Ok q
+        → (if test then Err OrderMismatch else (required_record t (type_word words) >>= λ r. name_at t r.name >>= λ name. name_at t (access_word words) >>= λ access. subject_of t k (type_word words) access >>= λ s. Ok (record { kind = k; name = name; subject = s }))) ≡ Ok q
         → k ≡ q.kind
     by_order k true e = absurd (cc)
     by_order k false e =
-        let r = ok_of (record_at t (type_word words)) _ q e in
+        let r = ok_of (required_record t (type_word words)) _ q e in
         let name = ok_of (name_at t r.0.name) _ q r.2 in
         let access = ok_of (name_at t (access_word words)) _ q name.2 in
         let s = ok_of (subject_of t k (type_word words) access.0) (λ s. Ok (record { kind = k; name = name.0; subject = s })) q access.2 in

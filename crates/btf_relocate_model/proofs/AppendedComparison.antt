@@ -8,9 +8,9 @@ use Rattle.btf_model.specs.Table.{Table}
 use Rattle.btf_model.specs.Walk.{walk_limit}
 use Rattle.btf_relocate_model.proofs.OwnPaths.{ok_of, same_ok}
 use Rattle.btf_relocate_model.specs.Candidates.{compared_number}
-use Rattle.btf_relocate_model.specs.Comparison.{Comparison, Step, Ends, GoesOn, EachParameter, EachMember, parameter_types, compatible_step, compatible_by, compatible_through, decided, resolved_pair, step_at, walked, compared, pair, pair_count, same_pair, types_alike}
+use Rattle.btf_relocate_model.specs.Comparison.{Comparison, Step, Ends, GoesOn, EachParameter, EachMember, parameter_ids, compatible_step, step_compatible_by, compatible_through, decided, resolved_pair, step_at, walked, compared, pair, pair_count, same_pair, types_alike}
 use Rattle.btf_relocate_model.specs.Laws.{with_strings}
-use Rattle.btf_relocate_model.specs.Types.{◌>>=◌, record_at}
+use Rattle.btf_relocate_model.specs.Types.{◌>>=◌, required_record}
 use Rattle.btf_relocate_model.specs.declared.comparison.Pair.{Pair}
 use Rattle.btf_relocate_model.specs.declared.comparison.Rule.TheVariants.{Compatible}
 use Rattle.btf_relocate_model.specs.declared.error.RelocationError.{RelocationError}
@@ -32,10 +32,10 @@ unfolding IsNameless
 through is_pointee (Some Ptr) (Some Ptr) r s = tt
 through is_pointee (Some Array) (Some Array) r s = tt
 through is_pointee (Some FuncProto) (Some FuncProto) r s =
-    by_test (length (parameter_types r.tail) == length (parameter_types s.tail)) (EachParameter (parameter_types r.tail) (parameter_types s.tail) (pair is_pointee r.third s.third)) (Ends false) tt tt
+    by_test (length (parameter_ids r.tail) == length (parameter_ids s.tail)) (EachParameter (parameter_ids r.tail) (parameter_ids s.tail) (pair is_pointee r.third s.third)) (Ends false) tt tt
 through is_pointee k q r s = tt
 
-by_kind : (is_pointee : Bool) (k q : Option Kind) (r s : Record) → IsNameless (compatible_by is_pointee k q r s)
+by_kind : (is_pointee : Bool) (k q : Option Kind) (r s : Record) → IsNameless (step_compatible_by is_pointee k q r s)
 unfolding IsNameless
 by_kind is_pointee (Some Unknown) q r s = tt
 by_kind is_pointee (Some Struct) q r s = tt
@@ -49,7 +49,7 @@ by_kind is_pointee k q r s = through is_pointee k q r s
 compatible_reads_none : (is_pointee : Bool) (r s : Record) → IsNameless (compatible_step is_pointee r s)
 unfolding IsNameless
 compatible_reads_none is_pointee r s =
-    by_test (compared_number (kind_number r.info) == compared_number (kind_number s.info)) (compatible_by is_pointee (kind_of r.info) (kind_of s.info) r s) (Ends false) (by_kind is_pointee (kind_of r.info) (kind_of s.info) r s) tt
+    by_test (compared_number (kind_number r.info) == compared_number (kind_number s.info)) (step_compatible_by is_pointee (kind_of r.info) (kind_of s.info) r s) (Ends false) (by_kind is_pointee (kind_of r.info) (kind_of s.info) r s) tt
 
 -- the comparison of two tables by the rule
 abbrev rule_with : Table → Table → Comparison
@@ -73,8 +73,8 @@ after_known (Err e) f h same = refl
 
 steps_read_none : (local target : Table) (p : Pair) (s : Step) → step_at (rule_with local target) p ≡ Ok s → IsNameless s
 steps_read_none local target p s is =
-    let r = ok_of (record_at local p.local) (λ r. record_at target p.target >>= λ q. Ok (compatible_step p.is_pointee r q)) s is in
-    let q = ok_of (record_at target p.target) (λ q. Ok (compatible_step p.is_pointee r.0 q)) s r.2 in
+    let r = ok_of (required_record local p.local) (λ r. required_record target p.target >>= λ q. Ok (compatible_step p.is_pointee r q)) s is in
+    let q = ok_of (required_record target p.target) (λ q. Ok (compatible_step p.is_pointee r.0 q)) s r.2 in
     subst IsNameless (same_ok _ _ q.2) (compatible_reads_none p.is_pointee r.0 q.0)
 
 walked_same : (n : ℕ) (more : List ℕ) (local target : Table) (start : ℕ) (inner : Pair → Result Bool RelocationError)

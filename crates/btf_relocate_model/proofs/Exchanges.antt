@@ -10,9 +10,9 @@ use Rattle.btf_model.specs.Word.{half, half_of, word, word_of}
 use Rattle.btf_model.specs.declared.endianness.Endianness.{Endianness}
 use Rattle.btf_relocate_model.specs.Instruction.{slot_at, slot_len, slot_bytes, instruction_bytes, instruction_at, instruction_with, ld_imm64, relocated, relocated_from, patched_slot, poison, narrow, is_ld_imm64, is_unexpected, wide_immediate, overwritten, written_back}
 use Rattle.btf_relocate_model.specs.Laws.{instruction_len, AreApart, ShareNone, PatchesCommute, NeighboursExchange}
-use Rattle.btf_relocate_model.specs.Resolution.{Setting, resolution, instruction_word, type_word}
+use Rattle.btf_relocate_model.specs.Resolution.{TablePair, resolution, instruction_word, type_word}
 use Rattle.btf_relocate_model.specs.Section as section
-use Rattle.btf_relocate_model.specs.Section.{code_after, outcome_of, patch_of}
+use Rattle.btf_relocate_model.specs.Section.{code_after, patched_outcome, patch_of}
 use Rattle.btf_relocate_model.specs.declared.error.RelocationError.{RelocationError}
 use Rattle.btf_relocate_model.specs.declared.error.RelocationError.TheVariants.{Misaligned, NoInstruction, NoSecondSlot, BadLdImm64, WrongImmediate}
 use Rattle.btf_relocate_model.specs.declared.instruction.Instruction.{Instruction}
@@ -200,7 +200,7 @@ still_read order r code at other (Ok p) is apart =
     instruction_same order code (overwritten at bytes code) other (other_bytes at bytes code other place.0 place.1 apart) (overwritten_len at bytes code place.0)
 still_read order r code at other (Err e) is apart = refl
 
-one_outcome : (order : Endianness) (code new : List ℕ) (at : ℕ) (x : Result (Patched × Instruction) RelocationError) → outcome_of (written_back order new at x) ≡ outcome_of (written_back order code at x)
+one_outcome : (order : Endianness) (code new : List ℕ) (at : ℕ) (x : Result (Patched × Instruction) RelocationError) → patched_outcome (written_back order new at x) ≡ patched_outcome (written_back order code at x)
 one_outcome order code new at (Ok p) = refl
 one_outcome order code new at (Err e) = refl
 
@@ -231,7 +231,7 @@ patches_commute order r s code at other apart =
     let second = code_after code (written_back order code other y) in
     let read : instruction_at order first other ≡ instruction_at order code other = still_read order r code at other x refl apart in
     let back : instruction_at order second at ≡ instruction_at order code at = still_read order s code other at y refl (exchanged code at other apart) in (
-      ap (λ (i : Result Instruction RelocationError). outcome_of (written_back order first other (relocated_from order s i))) read ∙ one_outcome order code first other y,
+      ap (λ (i : Result Instruction RelocationError). patched_outcome (written_back order first other (relocated_from order s i))) read ∙ one_outcome order code first other y,
       ap (λ (i : Result Instruction RelocationError). code_after first (written_back order first other (relocated_from order s i))) read
           ∙ one_code order r s code at other x y refl refl apart
           ∙ sym (ap (λ (i : Result Instruction RelocationError). code_after second (written_back order second at (relocated_from order r i))) back),
@@ -243,8 +243,8 @@ abbrev Outcome : Type 0
 Outcome = Result Patched RelocationError
 
 -- the patches of two records
-records_commute : (g : Setting) (code words others : List ℕ) (q r : Result (Resolved × List ℕ) RelocationError) → AreApart code (instruction_word words) (instruction_word others)
-    → (outcome_of (patch_of g (code_after code (patch_of g code words q)) others r) ≡ outcome_of (patch_of g code others r))
+records_commute : (g : TablePair) (code words others : List ℕ) (q r : Result (Resolved × List ℕ) RelocationError) → AreApart code (instruction_word words) (instruction_word others)
+    → (patched_outcome (patch_of g (code_after code (patch_of g code words q)) others r) ≡ patched_outcome (patch_of g code others r))
     × (code_after (code_after code (patch_of g code words q)) (patch_of g (code_after code (patch_of g code words q)) others r)
     ≡ code_after (code_after code (patch_of g code others r)) (patch_of g (code_after code (patch_of g code others r)) words q))
 records_commute g code words others (Ok q) (Ok r) apart = patches_commute g.local.order q.0 r.0 code (instruction_word words) (instruction_word others) apart
@@ -294,50 +294,50 @@ lefts_same true words others q r left (inr apart) = fun_ext (λ x. at_type x)
 abbrev Exchange : List Outcome × List ℕ → List Outcome × List ℕ → List Outcome → Type 0
 Exchange a b os = (o p : Outcome) × (more : List Outcome) × (a.0 ≡ os ++ o ∷ p ∷ more) × (b.0 ≡ os ++ p ∷ o ∷ more) × (a.1 ≡ b.1)
 
-then_second : (g : Setting) (is_shared : Bool) (after : List (List ℕ)) (others : List ℕ) (first : List ℕ) (left : ℕ → List ℕ) (r : Result (Resolved × List ℕ) RelocationError) → List Outcome × List ℕ
+then_second : (g : TablePair) (is_shared : Bool) (after : List (List ℕ)) (others : List ℕ) (first : List ℕ) (left : ℕ → List ℕ) (r : Result (Resolved × List ℕ) RelocationError) → List Outcome × List ℕ
 then_second g is_shared after others first left r =
-    section.then_outcomes (outcome_of (patch_of g first others r)) (section.relocated_from g is_shared (section.left_after is_shared others r left) (code_after first (patch_of g first others r)) after)
+    section.then_outcomes (patched_outcome (patch_of g first others r)) (section.section_relocated_from g is_shared (section.left_after is_shared others r left) (code_after first (patch_of g first others r)) after)
 
 -- the first two records, where the second has the candidates that it had before the first
-as_before : (g : Setting) (is_shared : Bool) (left : ℕ → List ℕ) (code : List ℕ) (after : List (List ℕ)) (words others : List ℕ) → ShareNone is_shared words others
-    → section.relocated_from g is_shared left code (words ∷ others ∷ after)
-    ≡ section.then_outcomes (outcome_of (patch_of g code words (resolution g (left (type_word words)) words)))
+as_before : (g : TablePair) (is_shared : Bool) (left : ℕ → List ℕ) (code : List ℕ) (after : List (List ℕ)) (words others : List ℕ) → ShareNone is_shared words others
+    → section.section_relocated_from g is_shared left code (words ∷ others ∷ after)
+    ≡ section.then_outcomes (patched_outcome (patch_of g code words (resolution g (left (type_word words)) words)))
     (then_second g is_shared after others (code_after code (patch_of g code words (resolution g (left (type_word words)) words))) (section.left_after is_shared words (resolution g (left (type_word words)) words) left)
     (resolution g (left (type_word others)) others))
 unfolding then_second
 as_before g is_shared left code after words others none =
     let q = resolution g (left (type_word words)) words in
     let p = patch_of g code words q in
-    ap (λ (cs : List ℕ). section.then_outcomes (outcome_of p) (then_second g is_shared after others (code_after code p) (section.left_after is_shared words q left) (resolution g cs others)))
+    ap (λ (cs : List ℕ). section.then_outcomes (patched_outcome p) (then_second g is_shared after others (code_after code p) (section.left_after is_shared words q left) (resolution g cs others)))
     (other_left is_shared words others q left none)
 
-first_two : (g : Setting) (is_shared : Bool) (left : ℕ → List ℕ) (code : List ℕ) (after : List (List ℕ)) (words others : List ℕ) → ShareNone is_shared words others → AreApart code (instruction_word words) (instruction_word others)
-    → Exchange (section.relocated_from g is_shared left code (words ∷ others ∷ after)) (section.relocated_from g is_shared left code (others ∷ words ∷ after)) []
+first_two : (g : TablePair) (is_shared : Bool) (left : ℕ → List ℕ) (code : List ℕ) (after : List (List ℕ)) (words others : List ℕ) → ShareNone is_shared words others → AreApart code (instruction_word words) (instruction_word others)
+    → Exchange (section.section_relocated_from g is_shared left code (words ∷ others ∷ after)) (section.section_relocated_from g is_shared left code (others ∷ words ∷ after)) []
 unfolding then_second
 first_two g is_shared left code after words others none apart =
     let q = resolution g (left (type_word words)) words in
     let r = resolution g (left (type_word others)) others in
     let there = records_commute g code words others q r apart in
     let back = records_commute g code others words r q (exchanged code (instruction_word words) (instruction_word others) apart) in
-    let o = outcome_of (patch_of g code words q) in
-    let p = outcome_of (patch_of g code others r) in
+    let o = patched_outcome (patch_of g code words q) in
+    let p = patched_outcome (patch_of g code others r) in
     let first = code_after code (patch_of g code words q) in
     let second = code_after code (patch_of g code others r) in
     let end = code_after first (patch_of g first others r) in
     let end_back = code_after second (patch_of g second words q) in
     let lefts = section.left_after is_shared others r (section.left_after is_shared words q left) in
     let lefts_back = section.left_after is_shared words q (section.left_after is_shared others r left) in
-    let rest = section.relocated_from g is_shared lefts end after in
+    let rest = section.section_relocated_from g is_shared lefts end after in
     let one = as_before g is_shared left code after words others none in
     let two = as_before g is_shared left code after others words (turned is_shared words others none) in
-    let same : section.relocated_from g is_shared lefts_back end_back after ≡ rest =
-    ap (λ (l : ℕ → List ℕ). section.relocated_from g is_shared l end_back after) (sym (lefts_same is_shared words others q r left none))
-    ∙ ap (λ (c : List ℕ). section.relocated_from g is_shared lefts c after) (sym there.1) in (
+    let same : section.section_relocated_from g is_shared lefts_back end_back after ≡ rest =
+    ap (λ (l : ℕ → List ℕ). section.section_relocated_from g is_shared l end_back after) (sym (lefts_same is_shared words others q r left none))
+    ∙ ap (λ (c : List ℕ). section.section_relocated_from g is_shared lefts c after) (sym there.1) in (
       o,
       p,
       rest.0,
       ap (λ (x : List Outcome × List ℕ). x.0) one ∙ ap (λ (x : Outcome). o ∷ x ∷ rest.0) there.0,
-      ap (λ (x : List Outcome × List ℕ). x.0) two ∙ ap (λ (x : Outcome). p ∷ x ∷ (section.relocated_from g is_shared lefts_back end_back after).0) back.0 ∙ ap (λ (x : List Outcome × List ℕ). p ∷ o ∷ x.0) same,
+      ap (λ (x : List Outcome × List ℕ). x.0) two ∙ ap (λ (x : Outcome). p ∷ x ∷ (section.section_relocated_from g is_shared lefts_back end_back after).0) back.0 ∙ ap (λ (x : List Outcome × List ℕ). p ∷ o ∷ x.0) same,
       ap (λ (x : List Outcome × List ℕ). x.1) one ∙ sym (ap (λ (x : List Outcome × List ℕ). x.1) two ∙ ap (λ (x : List Outcome × List ℕ). x.1) same),
     )
   where
@@ -346,15 +346,15 @@ first_two g is_shared left code after words others none apart =
     turned b m n (inr apart) = inr (λ e. apart (sym e))
 
 -- after the records before them
-after_all : (g : Setting) (is_shared : Bool) (left : ℕ → List ℕ) (code : List ℕ) (before after : List (List ℕ)) (words others : List ℕ) → ShareNone is_shared words others
-    → AreApart (section.relocated_from g is_shared left code before).1 (instruction_word words) (instruction_word others)
-    → Exchange (section.relocated_from g is_shared left code (before ++ words ∷ others ∷ after)) (section.relocated_from g is_shared left code (before ++ others ∷ words ∷ after)) (section.relocated_from g is_shared left code before).0
+after_all : (g : TablePair) (is_shared : Bool) (left : ℕ → List ℕ) (code : List ℕ) (before after : List (List ℕ)) (words others : List ℕ) → ShareNone is_shared words others
+    → AreApart (section.section_relocated_from g is_shared left code before).1 (instruction_word words) (instruction_word others)
+    → Exchange (section.section_relocated_from g is_shared left code (before ++ words ∷ others ∷ after)) (section.section_relocated_from g is_shared left code (before ++ others ∷ words ∷ after)) (section.section_relocated_from g is_shared left code before).0
 after_all g is_shared left code [] after words others none apart = first_two g is_shared left code after words others none apart
 after_all g is_shared left code (one ∷ before) after words others none apart =
     let r = resolution g (left (type_word one)) one in
     let p = patch_of g code one r in
     let rest = after_all g is_shared (section.left_after is_shared one r left) (code_after code p) before after words others none apart in
-    (rest.0, rest.1, rest.2, ap (λ (os : List Outcome). outcome_of p ∷ os) rest.3, ap (λ (os : List Outcome). outcome_of p ∷ os) rest.4, rest.5)
+    (rest.0, rest.1, rest.2, ap (λ (os : List Outcome). patched_outcome p ∷ os) rest.3, ap (λ (os : List Outcome). patched_outcome p ∷ os) rest.4, rest.5)
 
 pub neighbours_exchange : NeighboursExchange
 neighbours_exchange g is_shared code before after words others none apart =

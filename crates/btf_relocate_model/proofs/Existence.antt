@@ -10,9 +10,9 @@ use Rattle.btf_relocate_model.specs.Kind.{relocation_kinds}
 use Rattle.btf_relocate_model.specs.Laws.{IsOfValue, IsOfItsValue, AgreesWith, ExistenceAgrees}
 use Rattle.btf_relocate_model.specs.Match.{match_path}
 use Rattle.btf_relocate_model.specs.Path.{Path, path_of, local_pointer}
-use Rattle.btf_relocate_model.specs.Resolution.{Setting, Question, Subject, indices_or_bad, Topic, Fields, OfField, topic_of, poisons, resolution, question, answered, searched, answers, answer_of, candidate_answer, joined, retained, agree, seen_as, same_order, subject_by, is_local, resolved_by, remaining, validates}
-use Rattle.btf_relocate_model.specs.Types.{◌>>=◌, record_at, name_at, pointer_size}
-use Rattle.btf_relocate_model.specs.Value.{field_value, plain, number_of}
+use Rattle.btf_relocate_model.specs.Resolution.{TablePair, Question, Subject, indices_or_bad, Topic, Fields, OfField, topic_of, poisons, resolution, question, answered, searched, answers, answer_of, candidate_answer, joined_answer, retained, agree, seen_as, same_order, subject_by, is_local, resolved_by, remaining, validates}
+use Rattle.btf_relocate_model.specs.Types.{◌>>=◌, required_record, name_at, pointer_size}
+use Rattle.btf_relocate_model.specs.Value.{field_value, plain, truth_number}
 use Rattle.btf_relocate_model.specs.declared.answer.Answer.{Answer}
 use Rattle.btf_relocate_model.specs.declared.answer.Match.TheVariants.{AtField}
 use Rattle.btf_relocate_model.specs.declared.error.RelocationError.{RelocationError}
@@ -78,7 +78,7 @@ chosen V v a b same true false is = v
 chosen V v a b same false true is = absurd (cc (is refl))
 chosen V v a b same false false is = inl refl
 
-joins : (V : RelocationError → Type 0) → V Ambiguous → (first other a b : Option Answer) → Same first other → Same a b → Follows V Same (joined first a) (joined other b)
+joins : (V : RelocationError → Type 0) → V Ambiguous → (first other a b : Option Answer) → Same first other → Same a b → Follows V Same (joined_answer first a) (joined_answer other b)
 unfolding Same
 joins V v (Some x) (Some y) (Some a) (Some b) first same =
     chosen V v (Some x) (Some y) first (agree x a) (agree y b) (agrees x a y b first.0 same.0 first.1 same.1)
@@ -108,8 +108,8 @@ all_answers : (V : RelocationError → Type 0) → V Ambiguous → (f h : ℕ �
 unfolding SameFound
 all_answers V v f h [] each first other same = (same, refl)
 all_answers V v f h (c ∷ cs) each first other same =
-    bind V Same SameFound (f c) (h c) (λ a. joined first a >>= λ next. answers f next cs >>= λ rest. Ok (rest.0, retained c a rest.1)) (λ b. joined other b >>= λ next. answers h next cs >>= λ rest. Ok (rest.0, retained c b rest.1)) (each 0 c refl)
-    (λ a b ab. bind V Same SameFound (joined first a) (joined other b) (λ next. answers f next cs >>= λ rest. Ok (rest.0, retained c a rest.1)) (λ next. answers h next cs >>= λ rest. Ok (rest.0, retained c b rest.1)) (joins V v first other a b same ab)
+    bind V Same SameFound (f c) (h c) (λ a. joined_answer first a >>= λ next. answers f next cs >>= λ rest. Ok (rest.0, retained c a rest.1)) (λ b. joined_answer other b >>= λ next. answers h next cs >>= λ rest. Ok (rest.0, retained c b rest.1)) (each 0 c refl)
+    (λ a b ab. bind V Same SameFound (joined_answer first a) (joined_answer other b) (λ next. answers f next cs >>= λ rest. Ok (rest.0, retained c a rest.1)) (λ next. answers h next cs >>= λ rest. Ok (rest.0, retained c b rest.1)) (joins V v first other a b same ab)
     (λ m n mn. bind V SameFound SameFound (answers f m cs) (answers h n cs) (λ rest. Ok (rest.0, retained c a rest.1)) (λ rest. Ok (rest.0, retained c b rest.1)) (all_answers V v f h cs (λ i d is. each (suc i) d is) m n mn)
     (λ r s rs. (rs.0, remain c a b r.1 s.1 ab rs.1))))
 
@@ -133,9 +133,9 @@ one_candidate V pointer t k (Err e) v = inl refl
 -- ---- the whole record
 
 Agree : Resolved × List ℕ → Resolved × List ℕ → Type 0
-Agree exists r = (exists.0.value ≡ number_of (not r.0.is_poisoned)) × (exists.0.is_poisoned ≡ false) × (exists.1 ≡ r.1)
+Agree exists r = (exists.0.value ≡ truth_number (not r.0.is_poisoned)) × (exists.0.is_poisoned ≡ false) × (exists.1 ≡ r.1)
 
-results : (g : Setting) (k : RelocationKind) (p q : Bool) (expected other : Value) (cs : List ℕ) (a b : Option Answer) (left right : List ℕ) → poisons k ≡ true → Same a b → left ≡ right
+results : (g : TablePair) (k : RelocationKind) (p q : Bool) (expected other : Value) (cs : List ℕ) (a b : Option Answer) (left right : List ℕ) → poisons k ≡ true → Same a b → left ≡ right
     → Agree (resolved_by g.local g.target FieldExists p expected a, remaining cs a left) (resolved_by g.local g.target k q other b, remaining cs b right)
 unfolding Same Agree
 results g k p q expected other cs (Some a) (Some b) left right poison same is = (same.1, refl, is)
@@ -162,7 +162,7 @@ not_local TypeMatches is = refl
 about : RelocationKind → List ℕ → Path → Question
 about k name path = record { kind = k; name = name; subject = OfField path }
 
-searches : (g : Setting) (id : ℕ) (cs : List ℕ) (k : RelocationKind) (path : Path) (expected other : Value) → poisons k ≡ true
+searches : (g : TablePair) (id : ℕ) (cs : List ℕ) (k : RelocationKind) (path : Path) (expected other : Value) → poisons k ≡ true
     → Follows (IsOfValue g k cs path) Agree (searched g FieldExists (OfField path) cs expected) (searched g k (OfField path) cs other)
 unfolding Same SameFound
 searches g id cs k path expected other poison =
@@ -175,7 +175,7 @@ searches g id cs k path expected other poison =
     None None tt)
     (λ x y xy. results g k (validates FieldExists (OfField path)) (validates k (OfField path)) expected other cs x.0 y.0 x.1 y.1 poison xy.0 xy.1)
 
-answers_agree : (g : Setting) (id : ℕ) (cs : List ℕ) (k : RelocationKind) (name : List ℕ) (path : Path) → poisons k ≡ true
+answers_agree : (g : TablePair) (id : ℕ) (cs : List ℕ) (k : RelocationKind) (name : List ℕ) (path : Path) → poisons k ≡ true
     → Follows (IsOfValue g k cs path) Agree (answered g id cs (about FieldExists name path)) (answered g id cs (about k name path))
 unfolding about
 answers_agree g id cs k name path poison =
@@ -215,7 +215,7 @@ unfolding of_kind
 questions V t order at type access n k is topic =
     rw is
     (by_test V (SameQuestion k) (not (same_order t.order order)) OrderMismatch _ _
-    (after_same V (SameQuestion k) (record_at t type) _ _ (λ r.
+    (after_same V (SameQuestion k) (required_record t type) _ _ (λ r.
     after_same V (SameQuestion k) (name_at t r.name) _ _ (λ name.
     after_same V (SameQuestion k) (name_at t access) _ _ (λ text.
     subjects V t k (topic_of k) type name text topic)))))
@@ -244,7 +244,7 @@ bind_known V P Q (Ok a) (Err e) f h p next = beside V Q (f a) e p
 bind_known V P Q (Err e) (Ok b) f h p next = absurd p
 bind_known V P Q (Err e) (Err other) f h p next = p
 
-both_answer : (g : Setting) (id : ℕ) (cs : List ℕ) (k : RelocationKind) (words : List ℕ) (q r : Question) → poisons k ≡ true → question g.local g.target.order words ≡ Ok q → SameQuestion k q r
+both_answer : (g : TablePair) (id : ℕ) (cs : List ℕ) (k : RelocationKind) (words : List ℕ) (q r : Question) → poisons k ≡ true → question g.local g.target.order words ≡ Ok q → SameQuestion k q r
     → Follows (IsOfItsValue g k cs words) Agree (answered g id cs q) (answered g id cs r)
 unfolding SameQuestion about
 both_answer g id cs k words q r poison asked same =

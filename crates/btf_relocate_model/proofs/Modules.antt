@@ -6,8 +6,8 @@ use Rattle.btf_model.specs.Table.{Table}
 use Rattle.btf_model.specs.declared.endianness.Endianness.{Endianness}
 use Rattle.btf_relocate_model.specs.Laws.{WithoutModules}
 use Rattle.btf_relocate_model.specs.Modules.{Candidates, InKernel, alone, left_as, resolution_among}
-use Rattle.btf_relocate_model.specs.Resolution.{Setting, resolution, type_word}
-use Rattle.btf_relocate_model.specs.Section.{candidates_of, code_after, left_after, outcome_of, patch_in, relocated_by, then_outcomes}
+use Rattle.btf_relocate_model.specs.Resolution.{TablePair, resolution, type_word}
+use Rattle.btf_relocate_model.specs.Section.{candidates_of, code_after, left_after, patched_outcome, patch_in, relocated_by, then_outcomes}
 use Rattle.btf_relocate_model.specs.declared.error.RelocationError.{RelocationError}
 use Rattle.btf_relocate_model.specs.declared.resolved.Resolved.{Resolved}
 
@@ -34,7 +34,7 @@ same_left true words (Err e) left = fun_ext (λ (id : ℕ). at_test (type_word w
     at_test false x y = refl
 
 module _ (local kernel : Table) (shares : Bool) where
-  g : Setting
+  g : TablePair
   g = record { local = local; target = kernel }
 
   same_records : (left : ℕ → List ℕ) (code : List ℕ) (records : List (List ℕ))
@@ -44,9 +44,9 @@ module _ (local kernel : Table) (shares : Bool) where
   same_records left code (words ∷ records) =
       let r = resolution g (left (type_word words)) words in
       let p = patch_in local.order code words r in
-      ap (λ q. then_outcomes (outcome_of q) (relocated_by local.order (resolution_among local (alone kernel)) shares (left_after shares words (left_as InKernel r) (seen left)) (code_after code q) records)) (same_patch local.order code words r)
-      ∙ ap (λ (l : ℕ → Candidates). then_outcomes (outcome_of p) (relocated_by local.order (resolution_among local (alone kernel)) shares l (code_after code p) records)) (same_left shares words r left)
-      ∙ ap (then_outcomes (outcome_of p)) (same_records (left_after shares words r left) (code_after code p) records)
+      ap (λ q. then_outcomes (patched_outcome q) (relocated_by local.order (resolution_among local (alone kernel)) shares (left_after shares words (left_as InKernel r) (seen left)) (code_after code q) records)) (same_patch local.order code words r)
+      ∙ ap (λ (l : ℕ → Candidates). then_outcomes (patched_outcome p) (relocated_by local.order (resolution_among local (alone kernel)) shares l (code_after code p) records)) (same_left shares words r left)
+      ∙ ap (then_outcomes (patched_outcome p)) (same_records (left_after shares words r left) (code_after code p) records)
 
 pub without_modules : WithoutModules
 unfolding seen g

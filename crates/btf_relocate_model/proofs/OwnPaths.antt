@@ -9,12 +9,12 @@ use Rattle.btf_model.specs.Table.{Table}
 use Rattle.btf_model.specs.Text.{bytes_at}
 use Rattle.btf_relocate_model.specs.Candidates.{is_nameless}
 use Rattle.btf_relocate_model.specs.Compatible.{is_composite_kind, compatible}
-use Rattle.btf_relocate_model.specs.Field.{Member, members_of, member, member_field, member_or_none, moved, element, element_by, root}
+use Rattle.btf_relocate_model.specs.Field.{Member, members_of, member, member_field, member_or_none, moved_bit, element, element_by, root}
 use Rattle.btf_relocate_model.specs.Laws.{HasMember, WithName, WithinOne, LeadsTo, HasPlainMembers, PathsMatchThemselves}
 use Rattle.btf_relocate_model.specs.Match.{element_after, in_place, if_compatible, member_after, match_step, match_from, match_path, path_limit}
-use Rattle.btf_relocate_model.specs.Path.{Path, Place, Step, AtIndex, ToMember, local_pointer, nameless_place, named_place, member_place, element_place, place_by, place_at, ended, after, path_from}
+use Rattle.btf_relocate_model.specs.Path.{Path, Place, PathStep, AtIndex, ToMember, local_pointer, nameless_place, named_place, member_place, element_place, place_by, place_at, ended_path, after_step, path_from}
 use Rattle.btf_relocate_model.specs.Search.{Found, is_end, further_out, else_later, first_member, without_room, search}
-use Rattle.btf_relocate_model.specs.Types.{◌>>=◌, known, record_at, name_at, readable, bytes_or_none, name_or_none, resolved, resolved_record}
+use Rattle.btf_relocate_model.specs.Types.{◌>>=◌, known_record, required_record, name_at, readable, bytes_or_none, name_or_none, resolved, resolved_record}
 use Rattle.btf_relocate_model.specs.declared.error.RelocationError.{RelocationError}
 use Rattle.btf_relocate_model.specs.declared.error.RelocationError.TheVariants.{BadAccess, TooDeep, BitOffsetTooBig}
 use Rattle.btf_relocate_model.specs.declared.field.Field.{Field}
@@ -37,10 +37,10 @@ same_ok x z is = cc
 -- the record that an id resolves to is one of the table's
 of_table : (t : Table) (id : ℕ) (r : Record) → resolved_record t id ≡ Ok r → (k : ℕ) × (slice_get t.records k ≡ Some r)
 of_table t id r is =
-    let one = ok_of (resolved t id) (record_at t) r is in
+    let one = ok_of (resolved t id) (required_record t) r is in
     (one.0, by_option one.0 (slice_get t.records one.0) one.2)
   where
-    by_option : (k : ℕ) (o : Option Record) → known k o ≡ Ok r → o ≡ Some r
+    by_option : (k : ℕ) (o : Option Record) → known_record k o ≡ Ok r → o ≡ Some r
     by_option k (Some s) e = ap (λ (x : Record). Some x) (same_ok s r e)
     by_option k None e = absurd (cc)
 
@@ -139,7 +139,7 @@ skip inside t name info (m ∷ ms) (suc i) o has passes is =
 pub record Finds (t : Table) (around : Field) (name : List ℕ) (f : Field) : Type 0 where
   has : HasMember t name around.type_id
   finds : (room : ℕ) (o : Option Found) → search room t name around.type_id ≡ Ok o
-      → (g : Found) × (o ≡ Some g) × (moved around.bit g.field.bit ≡ Ok f.bit) × (record g.field { bit = f.bit } ≡ f)
+      → (g : Found) × (o ≡ Some g) × (moved_bit around.bit g.field.bit ≡ Ok f.bit) × (record g.field { bit = f.bit } ≡ f)
 
 has_room : (ms : List Member) (i : ℕ) (m : Member) (o : Option Found) → slice_get ms i ≡ Some m → without_room ms ≡ Ok o → ⊥
 has_room [] i m o is found = cc
@@ -163,14 +163,14 @@ from_member t name id i r m (suc n) o plain named at is leads found =
     apart : (k : ℕ) → k < i → i ≡ k → ⊥
     apart k lt e = omega arith
 
-moved_is : (bit by to : ℕ) → moved bit by ≡ Ok to → (bit + by ≡ to) × (to < 2 ^ 32)
+moved_is : (bit by to : ℕ) → moved_bit bit by ≡ Ok to → (bit + by ≡ to) × (to < 2 ^ 32)
 moved_is bit by to is = by_test (nat_lt (bit + by) (2 ^ 32)) refl is
   where
     by_test : (test : Bool) → nat_lt (bit + by) (2 ^ 32) ≡ test → (if test then Ok (bit + by) else Err BitOffsetTooBig) ≡ Ok to → (bit + by ≡ to) × (to < 2 ^ 32)
     by_test true below e = let same : bit + by ≡ to = same_ok (bit + by) to e in (same, grind (arith, nat_tests))
     by_test false below e = absurd (cc)
 
-moves : (bit by to : ℕ) → bit + by ≡ to → to < 2 ^ 32 → moved bit by ≡ Ok to
+moves : (bit by to : ℕ) → bit + by ≡ to → to < 2 ^ 32 → moved_bit bit by ≡ Ok to
 moves bit by to is lt = rw (is, below) refl
   where
     below : nat_lt to (2 ^ 32) ≡ true
@@ -180,10 +180,10 @@ moves bit by to is lt = rw (is, below) refl
 member_with : Record → Member → Bool → ℕ → Field
 member_with r m is_last bit = record { type_id = m.type; bit = bit; bits = member_bit_field_size r.info m.offset; is_member = true; is_last = is_last }
 
-field_is : (r : Record) (m : Member) (bit : ℕ) (is_last : Bool) (f : Field) → member_field r.info bit is_last m ≡ Ok f → (moved bit (member_bit_offset r.info m.offset) ≡ Ok f.bit) × (member_with r m is_last f.bit ≡ f)
+field_is : (r : Record) (m : Member) (bit : ℕ) (is_last : Bool) (f : Field) → member_field r.info bit is_last m ≡ Ok f → (moved_bit bit (member_bit_offset r.info m.offset) ≡ Ok f.bit) × (member_with r m is_last f.bit ≡ f)
 unfolding member_with
 field_is r m bit is_last f is =
-    let one = ok_of (moved bit (member_bit_offset r.info m.offset)) (λ first. Ok (member_with r m is_last first)) f is in
+    let one = ok_of (moved_bit bit (member_bit_offset r.info m.offset)) (λ first. Ok (member_with r m is_last first)) f is in
     let same : member_with r m is_last one.0 ≡ f = same_ok (member_with r m is_last one.0) f one.2 in
     let bits : one.0 ≡ f.bit = ap (λ (h : Field). h.bit) same in
     (one.1 ∙ ap {B = Result ℕ RelocationError} (λ (b : ℕ). Ok b) bits, ap (λ (b : ℕ). member_with r m is_last b) (sym bits) ∙ same)
@@ -199,7 +199,7 @@ find_named t around i r m f plain at is named made = record { has = WithName aro
     by_tests : (nameless equal : Bool) (a b c : Result (Option Found) RelocationError) (o : Option Found) → nameless ≡ false → equal ≡ true → (if nameless then a else (if equal then b else c)) ≡ Ok o → b ≡ Ok o
     by_tests nameless equal a b c o p q e = rw (p, q) at e
 
-    finds : (room : ℕ) (o : Option Found) → search room t name around.type_id ≡ Ok o → (g : Found) × (o ≡ Some g) × (moved around.bit g.field.bit ≡ Ok f.bit) × (record g.field { bit = f.bit } ≡ f)
+    finds : (room : ℕ) (o : Option Found) → search room t name around.type_id ≡ Ok o → (g : Found) × (o ≡ Some g) × (moved_bit around.bit g.field.bit ≡ Ok f.bit) × (record g.field { bit = f.bit } ≡ f)
     finds room o found =
         let start = from_member t name around.type_id i r m room o plain named at is (inl refl) found in
         let last = is_end (drop (suc i) (members_of r)) in
@@ -217,7 +217,7 @@ find_named t around i r m f plain at is named made = record { has = WithName aro
         )
 
 find_within : (t : Table) (around : Field) (i : ℕ) (r : Record) (m : Member) (inner f : Field) (name : List ℕ) → HasPlainMembers t → is_nameless name ≡ false → resolved_record t around.type_id ≡ Ok r → slice_get (members_of r) i ≡ Some m
-    → is_nameless (name_or_none t m.name) ≡ true → inner.type_id ≡ m.type → moved around.bit (member_bit_offset r.info m.offset) ≡ Ok inner.bit → Finds t inner name f → Finds t around name f
+    → is_nameless (name_or_none t m.name) ≡ true → inner.type_id ≡ m.type → moved_bit around.bit (member_bit_offset r.info m.offset) ≡ Ok inner.bit → Finds t inner name f → Finds t around name f
 find_within t around i r m inner f name plain named at is nameless type place there = record { has = WithinOne around.type_id i r m at is nameless has; finds = finds }
   where
     has : HasMember t name m.type
@@ -226,7 +226,7 @@ find_within t around i r m inner f name plain named at is nameless type place th
     by_test : (test : Bool) (a b : Result (Option Found) RelocationError) (o : Option Found) → test ≡ true → (if test then a else b) ≡ Ok o → a ≡ Ok o
     by_test test a b o p e = rw p at e
 
-    finds : (room : ℕ) (o : Option Found) → search room t name around.type_id ≡ Ok o → (g : Found) × (o ≡ Some g) × (moved around.bit g.field.bit ≡ Ok f.bit) × (record g.field { bit = f.bit } ≡ f)
+    finds : (room : ℕ) (o : Option Found) → search room t name around.type_id ≡ Ok o → (g : Found) × (o ≡ Some g) × (moved_bit around.bit g.field.bit ≡ Ok f.bit) × (record g.field { bit = f.bit } ≡ f)
     finds room o found =
         let offset = member_bit_offset r.info m.offset in
         let start = from_member t name around.type_id i r m room o plain named at is (inr (nameless, has)) found in
@@ -235,7 +235,7 @@ find_within t around i r m inner f name plain named at is nameless type place th
         let one = ok_of (search start.0 t name m.type) (else_later offset later) o here in
         let deep = there.finds start.0 one.0 (ap (search start.0 t name) type ∙ one.1) in
         let out : further_out offset deep.0 ≡ Ok o = ap (else_later offset later) (sym deep.1) ∙ one.2 in
-        let two = ok_of (moved offset deep.0.field.bit) (λ first. Ok (Some (record { field = record deep.0.field { bit = first }; count = suc deep.0.count }))) o out in
+        let two = ok_of (moved_bit offset deep.0.field.bit) (λ first. Ok (Some (record { field = record deep.0.field { bit = first }; count = suc deep.0.count }))) o out in
         let a = moved_is around.bit offset inner.bit place in
         let b = moved_is offset deep.0.field.bit two.0 two.1 in
         let c = moved_is inner.bit deep.0.field.bit f.bit deep.2 in (
@@ -306,7 +306,7 @@ member_places t p i found q plain of made = by_test (found.1 == 0) refl made
     table : (k : ℕ) × (slice_get t.records k ≡ Some r)
     table = of_table t p.type_id r of.2
 
-    field : (moved p.bit (member_bit_offset r.info m.offset) ≡ Ok found.0.bit) × (member_with r m (i + 1 == length (members_of r)) found.0.bit ≡ found.0)
+    field : (moved_bit p.bit (member_bit_offset r.info m.offset) ≡ Ok found.0.bit) × (member_with r m (i + 1 == length (members_of r)) found.0.bit ≡ found.0)
     field = field_is r m p.bit (i + 1 == length (members_of r)) found.0 of.4
 
     type : found.0.type_id ≡ m.type
@@ -356,9 +356,9 @@ places t p i q plain is =
 
 -- What is matched from a place on leads to the end of the path: after the step to the place, if it is one; else from the
 -- place around it.
-Followed : Table → Option Step → Field → Path → Type 0
+Followed : Table → Option PathStep → Field → Path → Type 0
 Followed t (Some s) f path =
-    (ss : List Step) × (path.steps ≡ s ∷ ss) × ((at : Found) (o : Option Field) → at.field ≡ f → match_from t local_pointer t ss (Some at) ≡ Ok o → o ≡ Some path.field)
+    (ss : List PathStep) × (path.steps ≡ s ∷ ss) × ((at : Found) (o : Option Field) → at.field ≡ f → match_from t local_pointer t ss (Some at) ≡ Ok o → o ≡ Some path.field)
 Followed t None f path =
     (at : Found) (o : Option Field) → Carries t at.field f → IsComposite t f → match_from t local_pointer t path.steps (Some at) ≡ Ok o → o ≡ Some path.field
 
@@ -366,11 +366,11 @@ Followed t None f path =
 from_element : (t : Table) (f : Field) (i : ℕ) (q : Place) (path : Path) (at : Found) (o : Option Field) → IsElement t f i q → Followed t q.step q.field path → at.field ≡ f
     → match_from t local_pointer t path.steps (Some at) ≡ Ok o → o ≡ Some path.field
 unfolding IsElement Followed
-from_element t f i q path at o is rest here matched = by_rest (subst (λ (s : Option Step). Followed t s q.field path) is.0 rest)
+from_element t f i q path at o is rest here matched = by_rest (subst (λ (s : Option PathStep). Followed t s q.field path) is.0 rest)
   where
     by_rest : Followed t (Some (AtIndex i)) q.field path → o ≡ Some path.field
     by_rest next =
-        let all : match_from t local_pointer t (AtIndex i ∷ next.0) (Some at) ≡ Ok o = subst (λ (ss : List Step). match_from t local_pointer t ss (Some at) ≡ Ok o) next.1 matched in
+        let all : match_from t local_pointer t (AtIndex i ∷ next.0) (Some at) ≡ Ok o = subst (λ (ss : List PathStep). match_from t local_pointer t ss (Some at) ≡ Ok o) next.1 matched in
         let one = ok_of (match_step t local_pointer t at (AtIndex i)) (match_from t local_pointer t next.0) o all in
         let element_is : element local_pointer t at.field i ≡ Ok (Some q.field) = ap (λ (h : Field). element local_pointer t h i) here ∙ is.1 in
         let x : element_after at.count (Some q.field) ≡ Ok one.0 = sym (ap (λ (e : Result (Option Field) RelocationError). e >>= element_after at.count) element_is) ∙ one.1 in
@@ -389,7 +389,7 @@ if_so h b = if b then Ok (Some h) else Ok None
 from_named : (t : Table) (f : Field) (q : Place) (path : Path) (at : Found) (o : Option Field) → IsNamed t f q → Followed t q.step q.field path → Carries t at.field f
     → match_from t local_pointer t path.steps (Some at) ≡ Ok o → o ≡ Some path.field
 unfolding IsNamed Followed Carries
-from_named t f q path at o is rest carries matched = by_rest (subst (λ (s : Option Step). Followed t s q.field path) is.2 rest)
+from_named t f q path at o is rest carries matched = by_rest (subst (λ (s : Option PathStep). Followed t s q.field path) is.2 rest)
   where
     name : List ℕ
     name = is.0
@@ -400,7 +400,7 @@ from_named t f q path at o is rest carries matched = by_rest (subst (λ (s : Opt
     by_rest : Followed t (Some (ToMember name q.field.type_id)) q.field path → o ≡ Some path.field
     by_rest next =
         let type = q.field.type_id in
-        let all : match_from t local_pointer t (ToMember name type ∷ next.0) (Some at) ≡ Ok o = subst (λ (ss : List Step). match_from t local_pointer t ss (Some at) ≡ Ok o) next.1 matched in
+        let all : match_from t local_pointer t (ToMember name type ∷ next.0) (Some at) ≡ Ok o = subst (λ (ss : List PathStep). match_from t local_pointer t ss (Some at) ≡ Ok o) next.1 matched in
         let one = ok_of (match_step t local_pointer t at (ToMember name type)) (match_from t local_pointer t next.0) o all in
         let two = ok_of (search (path_limit - at.count) t name at.field.type_id) (member_after t t type at) one.0 one.1 in
         let found = there.finds (path_limit - at.count) two.0 two.1 in
@@ -417,7 +417,7 @@ from_within : (t : Table) (f : Field) (q : Place) (path : Path) (at : Found) (o 
     → match_from t local_pointer t path.steps (Some at) ≡ Ok o → o ≡ Some path.field
 unfolding IsWithin Followed Carries
 from_within t f q path at o is rest carries matched =
-    let next : Followed t None q.field path = subst (λ (s : Option Step). Followed t s q.field path) is.0 rest in
+    let next : Followed t None q.field path = subst (λ (s : Option PathStep). Followed t s q.field path) is.0 rest in
     next at o (λ name g named there. carries name g named (is.1 name g named there)) is.2 matched
 
 -- a STRUCT or UNION has no elements
@@ -425,8 +425,8 @@ no_element : (t : Table) (f g : Field) (i : ℕ) → IsComposite t f → element
 unfolding IsComposite
 no_element t f g i composite is =
     let one = ok_of (resolved t f.type_id) _ (Some g) is in
-    let two = ok_of (record_at t one.0) (λ r. element_by local_pointer t f i (kind_of r.info) r) (Some g) one.2 in
-    by_kind two.0 (kind_of two.0.info) (composite two.0 (ap (λ (x : Result ℕ RelocationError). x >>= record_at t) one.1 ∙ two.1)) two.2
+    let two = ok_of (required_record t one.0) (λ r. element_by local_pointer t f i (kind_of r.info) r) (Some g) one.2 in
+    by_kind two.0 (kind_of two.0.info) (composite two.0 (ap (λ (x : Result ℕ RelocationError). x >>= required_record t) one.1 ∙ two.1)) two.2
   where
     by_kind : (r : Record) (k : Option Kind) → is_composite_kind k ≡ true → element_by local_pointer t f i k r ≡ Ok (Some g) → ⊥
     by_kind r (Some Array) e found = cc
@@ -436,7 +436,7 @@ itself : (t : Table) (f g : Field) → f ≡ g → Carries t f g
 unfolding Carries
 itself t f g same name h named there = subst (λ (x : Field). Finds t x name h) (sym same) there
 
-step_on : (t : Table) (s : Option Step) (f : Field) (i : ℕ) (q : Place) (path : Path) → IsElement t f i q ⊎ (IsNamed t f q ⊎ IsWithin t f q) → Followed t q.step q.field path → Followed t s f (after s path)
+step_on : (t : Table) (s : Option PathStep) (f : Field) (i : ℕ) (q : Place) (path : Path) → IsElement t f i q ⊎ (IsNamed t f q ⊎ IsWithin t f q) → Followed t q.step q.field path → Followed t s f (after_step s path)
 unfolding Followed IsElement
 step_on t (Some s) f i q path (inl element_is) rest = (path.steps, refl, λ at o here matched. from_element t f i q path at o element_is rest here matched)
 step_on t (Some s) f i q path (inr (inl named)) rest = (path.steps, refl, λ at o here matched. from_named t f q path at o named rest (itself t at.field f here) matched)
@@ -445,7 +445,7 @@ step_on t None f i q path (inl element_is) rest = λ at o carries composite matc
 step_on t None f i q path (inr (inl named)) rest = λ at o carries composite matched. from_named t f q path at o named rest carries matched
 step_on t None f i q path (inr (inr within)) rest = λ at o carries composite matched. from_within t f q path at o within rest carries matched
 
-end_of : (t : Table) (s : Option Step) (f : Field) (path : Path) → ended f s ≡ Ok path → Followed t s f path
+end_of : (t : Table) (s : Option PathStep) (f : Field) (path : Path) → ended_path f s ≡ Ok path → Followed t s f path
 unfolding Followed
 end_of t (Some s) f path is =
     subst (Followed t (Some s) f) (same_ok _ _ is) ([], refl, λ at o here matched. sym (same_ok (Some at.field) o matched) ∙ ap (λ (g : Field). Some g) here)
@@ -454,9 +454,9 @@ end_of t None f path is = absurd (cc)
 follow : (t : Table) → HasPlainMembers t → (is : List ℕ) (p : Place) (path : Path) → path_from t p is ≡ Ok path → Followed t p.step p.field path
 follow t plain [] p path made = end_of t p.step p.field path made
 follow t plain (i ∷ is) p path made =
-    let one = ok_of (place_at t p.field i) (λ q. path_from t q is >>= λ x. Ok (after p.step x)) path made in
-    let two = ok_of (path_from t one.0 is) (λ x. Ok (after p.step x)) path one.2 in
-    subst (Followed t p.step p.field) (same_ok (after p.step two.0) path two.2)
+    let one = ok_of (place_at t p.field i) (λ q. path_from t q is >>= λ x. Ok (after_step p.step x)) path made in
+    let two = ok_of (path_from t one.0 is) (λ x. Ok (after_step p.step x)) path one.2 in
+    subst (Followed t p.step p.field) (same_ok (after_step p.step two.0) path two.2)
     (step_on t p.step p.field i one.0 two.0 (places t p.field i one.0 plain one.1) (follow t plain is one.0 two.0 two.1))
 
 pub paths_match_themselves : PathsMatchThemselves
@@ -465,7 +465,7 @@ paths_match_themselves t id [] path o plain made matched = absurd (cc)
 paths_match_themselves t id (i ∷ is) path o plain made matched =
     let one = ok_of (root local_pointer t id i) (λ f. path_from t (record { field = f; step = Some (AtIndex i) }) is) path made in
     let rest = follow t plain is (record { field = one.0; step = Some (AtIndex i) }) path one.2 in
-    let all : match_path t local_pointer t (AtIndex i ∷ rest.0) id ≡ Ok o = subst (λ (ss : List Step). match_path t local_pointer t ss id ≡ Ok o) rest.1 matched in
+    let all : match_path t local_pointer t (AtIndex i ∷ rest.0) id ≡ Ok o = subst (λ (ss : List PathStep). match_path t local_pointer t ss id ≡ Ok o) rest.1 matched in
     let here : match_from t local_pointer t rest.0 (Some (record { field = one.0; count = 1 })) ≡ Ok o =
     sym (ap (λ (x : Result Field RelocationError). x >>= λ f. match_from t local_pointer t rest.0 (Some (record { field = f; count = 1 }))) one.1) ∙ all in
     rest.2 (record { field = one.0; count = 1 }) o refl here

@@ -7,13 +7,13 @@ use Rattle.btf_model.specs.declared.endianness.Endianness.{Endianness}
 use Rattle.btf_relocate_model.proofs.OwnPaths.{ok_of, same_ok, same_some, same_bytes, bytes_same, paths_match_themselves}
 use Rattle.btf_relocate_model.specs.Access.{access_of}
 use Rattle.btf_relocate_model.specs.Comparison.{types_alike}
-use Rattle.btf_relocate_model.specs.Enumerator.{enumerators, named, enumerator_at, first_named, find_enumerator}
+use Rattle.btf_relocate_model.specs.Enumerator.{enumerators, named_enumerator, enumerator_at, first_named, find_enumerator}
 use Rattle.btf_relocate_model.specs.Laws.{IsOwn, MatchesItself}
 use Rattle.btf_relocate_model.specs.Match.{match_path}
 use Rattle.btf_relocate_model.specs.Name.{essential}
 use Rattle.btf_relocate_model.specs.Path.{path_of, local_pointer}
-use Rattle.btf_relocate_model.specs.Resolution.{Setting, Question, Topic, Fields, Types, Enumerators, Subject, OfField, OfType, OfEnumerator, topic_of, indices_or_bad, enumerator_subject, subject_by, subject_of, question, kind_at, kind_word, type_word, access_word, same_order, local_match, rule_of, match_of, seen_as, type_if}
-use Rattle.btf_relocate_model.specs.Types.{◌>>=◌, record_at, name_at, pointer_size}
+use Rattle.btf_relocate_model.specs.Resolution.{TablePair, Question, Topic, Fields, Types, Enumerators, Subject, OfField, OfType, OfEnumerator, topic_of, indices_or_bad, enumerator_subject, subject_by, subject_of, question, relocation_kind_at, kind_word, type_word, access_word, same_order, local_match, rule_of, match_of, seen_as, type_if}
+use Rattle.btf_relocate_model.specs.Types.{◌>>=◌, required_record, name_at, pointer_size}
 use Rattle.btf_relocate_model.specs.declared.answer.Match.{Match}
 use Rattle.btf_relocate_model.specs.declared.answer.Match.TheVariants.{AtField, AtType, AtEnumerator}
 use Rattle.btf_relocate_model.specs.declared.error.RelocationError.{RelocationError}
@@ -35,10 +35,10 @@ made_enumerator t id [] s is_made = absurd (cc)
 made_enumerator t id (i ∷ j ∷ is) s is_made = absurd (cc)
 made_enumerator t id (i ∷ []) s is_made =
     let one = ok_of (enumerator_at t id i) (λ e. Ok (OfEnumerator e.1 e.0.value)) s is_made in
-    let two = ok_of (enumerators t id) (λ vs. named t (slice_get vs i)) one.0 one.1 in
+    let two = ok_of (enumerators t id) (λ vs. named_enumerator t (slice_get vs i)) one.0 one.1 in
     subst (Made t id) (same_ok _ _ one.2) (by_option two.0 two.1 (slice_get two.0 i) refl one.0 two.2)
   where
-    by_option : (vs : List Variant) → enumerators t id ≡ Ok vs → (o : Option Variant) → slice_get vs i ≡ o → (e : Variant × List ℕ) → named t o ≡ Ok e → Made t id (OfEnumerator e.1 e.0.value)
+    by_option : (vs : List Variant) → enumerators t id ≡ Ok vs → (o : Option Variant) → slice_get vs i ≡ o → (e : Variant × List ℕ) → named_enumerator t o ≡ Ok e → Made t id (OfEnumerator e.1 e.0.value)
     by_option vs at None is e found = absurd (cc)
     by_option vs at (Some v) is e found =
         let name = ok_of (name_at t v.name) (λ x. Ok (v, x)) e found in
@@ -65,14 +65,14 @@ with_subject k name s = Ok (record { kind = k; name = name; subject = s })
 
 made : (t : Table) (order : Endianness) (words : List ℕ) (q : Question) → question t order words ≡ Ok q → Made t (type_word words) q.subject
 made t order words q is =
-    let k = ok_of (kind_at (kind_word words)) _ q is in by_order k.0 (not (same_order t.order order)) k.2
+    let k = ok_of (relocation_kind_at (kind_word words)) _ q is in by_order k.0 (not (same_order t.order order)) k.2
   where
     by_order : (k : RelocationKind) (test : Bool)
-        → (if test then Err OrderMismatch else (record_at t (type_word words) >>= λ r. name_at t r.name >>= λ name. name_at t (access_word words) >>= λ access. subject_of t k (type_word words) access >>= with_subject k name)) ≡ Ok q
+        → (if test then Err OrderMismatch else (required_record t (type_word words) >>= λ r. name_at t r.name >>= λ name. name_at t (access_word words) >>= λ access. subject_of t k (type_word words) access >>= with_subject k name)) ≡ Ok q
         → Made t (type_word words) q.subject
     by_order k true e = absurd (cc)
     by_order k false e =
-        let r = ok_of (record_at t (type_word words)) _ q e in
+        let r = ok_of (required_record t (type_word words)) _ q e in
         let name = ok_of (name_at t r.0.name) _ q r.2 in
         let access = ok_of (name_at t (access_word words)) _ q name.2 in
         let s = ok_of (subject_of t k (type_word words) access.0) (with_subject k name.0) q access.2 in
@@ -105,7 +105,7 @@ first_is t name (w ∷ ws) i v o is read same found =
 -- ---- matches
 
 -- a subject of the program's own table matches itself
-finds_itself : (g : Setting) (k : RelocationKind) (id : ℕ) (s : Subject) (m : Option Match) → IsOwn g → Made g.local id s → MatchesItself g k id s
+finds_itself : (g : TablePair) (k : RelocationKind) (id : ℕ) (s : Subject) (m : Option Match) → IsOwn g → Made g.local id s → MatchesItself g k id s
     → match_of k g.local (pointer_size g.target) g.target s id ≡ Ok m → m ≡ Some (local_match s)
 unfolding Made
 finds_itself g k id s m own from plain found =
@@ -133,7 +133,7 @@ finds_itself g k id s m own from plain found =
         sym (same_ok (Some (AtEnumerator first.0.value)) m (ap (seen_as (λ (v : Variant). AtEnumerator v.value)) (sym first.1) ∙ one.2))
         ∙ ap (λ (n : ℕ). Some (AtEnumerator n)) (first.2 ∙ from.6)
 
-pub record_finds_itself : (g : Setting) (words : List ℕ) (q : Question) (m : Option Match) → IsOwn g → question g.local g.target.order words ≡ Ok q → MatchesItself g q.kind (type_word words) q.subject
+pub record_finds_itself : (g : TablePair) (words : List ℕ) (q : Question) (m : Option Match) → IsOwn g → question g.local g.target.order words ≡ Ok q → MatchesItself g q.kind (type_word words) q.subject
     → match_of q.kind g.local (pointer_size g.target) g.target q.subject (type_word words) ≡ Ok m → m ≡ Some (local_match q.subject)
 record_finds_itself g words q m own asked plain found =
     finds_itself g q.kind (type_word words) q.subject m own (made g.local g.target.order words q asked) plain found

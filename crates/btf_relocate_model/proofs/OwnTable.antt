@@ -18,7 +18,7 @@ use Rattle.btf_relocate_model.specs.Candidates.{is_nameless}
 use Rattle.btf_relocate_model.specs.Instruction.{slot_at, slot_len, ld_imm64, slot_bytes, instruction_bytes, instruction_at, relocated, relocated_from, patched, patched_slot, patched_offset, patched_immediate, is_unexpected, sign_extended, wide_immediate, is_ld_imm64, narrow, fits_immediate, is_register_source, overwritten, written_back}
 use Rattle.btf_relocate_model.specs.Laws.{IsOwn, IsExpected, AreBytes, OwnTableGivesTheExpected, ExpectedKeepsTheCode, OwnTableKeepsTheCode}
 use Rattle.btf_relocate_model.specs.Path.{local_pointer}
-use Rattle.btf_relocate_model.specs.Resolution.{Setting, Question, Subject, is_local, local_match, local_id, match_of, value_of, bit_of, answer_of, answers, candidate_answer, searched, answered, resolution, resolved_by, remaining, validates, instruction_word, type_word}
+use Rattle.btf_relocate_model.specs.Resolution.{TablePair, Question, Subject, is_local, local_match, local_id, match_of, value_of, bit_of, answer_of, answers, candidate_answer, searched, answered, resolution, resolved_by, remaining, validates, instruction_word, type_word}
 use Rattle.btf_relocate_model.specs.Section.{patch_of}
 use Rattle.btf_relocate_model.specs.Types.{◌>>=◌, pointer_size}
 use Rattle.btf_relocate_model.specs.declared.answer.Answer.{Answer}
@@ -38,12 +38,12 @@ use Rattle.btf_relocate_model.specs.declared.resolved.Resolved.{Resolved}
 -- ---- values
 
 -- a value in the target's table
-own_value : (g : Setting) → IsOwn g → (k : RelocationKind) (m : Match) → value_of (pointer_size g.target) g.target k m ≡ value_of local_pointer g.local k m
+own_value : (g : TablePair) → IsOwn g → (k : RelocationKind) (m : Match) → value_of (pointer_size g.target) g.target k m ≡ value_of local_pointer g.local k m
 own_value g own k m =
     ap (λ (p : ℕ). value_of p g.target k m) own.pointer ∙ ap (λ (t : Table). value_of local_pointer t k m) own.table
 
 -- the one candidate gives the value of the program's own table
-own_answer : (g : Setting) (k : RelocationKind) (id : ℕ) (s : Subject) (v : Value) → IsOwn g → match_of k g.local (pointer_size g.target) g.target s id ≡ Ok (Some (local_match s))
+own_answer : (g : TablePair) (k : RelocationKind) (id : ℕ) (s : Subject) (v : Value) → IsOwn g → match_of k g.local (pointer_size g.target) g.target s id ≡ Ok (Some (local_match s))
     → value_of local_pointer g.local k (local_match s) ≡ Ok v → candidate_answer g k s id ≡ Ok (Some (record { bit = bit_of (local_match s); value = v }))
 own_answer g k id s v own finds is =
     ap (λ (m : Result (Option Match) RelocationError). m >>= answer_of (pointer_size g.target) g.target k) finds
@@ -56,10 +56,10 @@ one_error : (f : ℕ → Result (Option Answer) RelocationError) (id : ℕ) (e :
 one_error f id e is = rw is
 
 -- what the one candidate has
-abbrev matched : Setting → Question → ℕ → Result (Option Match) RelocationError
+abbrev matched : TablePair → Question → ℕ → Result (Option Match) RelocationError
 matched g q id = match_of q.kind g.local (pointer_size g.target) g.target q.subject id
 
-own_matched : (g : Setting) (q : Question) (id : ℕ) (v : Value) (x : Result (Option Match) RelocationError) → IsOwn g → ((m : Option Match) → x ≡ Ok m → m ≡ Some (local_match q.subject)) → matched g q id ≡ x
+own_matched : (g : TablePair) (q : Question) (id : ℕ) (v : Value) (x : Result (Option Match) RelocationError) → IsOwn g → ((m : Option Match) → x ≡ Ok m → m ≡ Some (local_match q.subject)) → matched g q id ≡ x
     → value_of local_pointer g.local q.kind (local_match q.subject) ≡ Ok v → IsExpected g q id (searched g q.kind q.subject (id ∷ []) v)
 own_matched g q id v (Ok m) own finds found is =
     let a : Answer = record { bit = bit_of (local_match q.subject); value = v } in
@@ -72,7 +72,7 @@ own_matched g q id v (Err e) own finds found is =
     subst (λ (found : Result (Option Answer × List ℕ) RelocationError). IsExpected g q id (found >>= λ f. Ok (resolved_by g.local g.target q.kind (validates q.kind q.subject) v f.0, remaining (id ∷ []) f.0 f.1))) (sym none)
     (inr (inr found))
 
-own_searched : (g : Setting) (q : Question) (id : ℕ) (x : Result Value RelocationError) → IsOwn g → ((m : Option Match) → matched g q id ≡ Ok m → m ≡ Some (local_match q.subject)) → value_of local_pointer g.local q.kind (local_match q.subject) ≡ x
+own_searched : (g : TablePair) (q : Question) (id : ℕ) (x : Result Value RelocationError) → IsOwn g → ((m : Option Match) → matched g q id ≡ Ok m → m ≡ Some (local_match q.subject)) → value_of local_pointer g.local q.kind (local_match q.subject) ≡ x
     → IsExpected g q id (x >>= searched g q.kind q.subject (id ∷ []))
 own_searched g q id (Ok v) own finds is = own_matched g q id v (matched g q id) own finds refl is
 own_searched g q id (Err e) own finds is = inr (inl is)
@@ -81,7 +81,7 @@ local_unvalidated : (k : RelocationKind) (s : Subject) → is_local k ≡ true �
 local_unvalidated TypeIdLocal s is = refl
 local_unvalidated k s is = absurd (cc)
 
-own_answered : (g : Setting) (q : Question) (id : ℕ) (local nameless : Bool) (rest : Result (Resolved × List ℕ) RelocationError) → (local ≡ true → false ≡ validates q.kind q.subject) → IsExpected g q id rest
+own_answered : (g : TablePair) (q : Question) (id : ℕ) (local nameless : Bool) (rest : Result (Resolved × List ℕ) RelocationError) → (local ≡ true → false ≡ validates q.kind q.subject) → IsExpected g q id rest
     → IsExpected g q id (if local then Ok (local_id id, id ∷ []) else (if nameless then Err (AnonymousType id) else rest))
 own_answered g q id true nameless rest unvalidated is = record { value = refl; is_not_poisoned = refl; size = refl; validates = unvalidated refl; remaining = refl }
 own_answered g q id false true rest unvalidated is = inl refl
@@ -296,7 +296,7 @@ expected_keeps_the_code order r code at p bytes value asked same validated is =
 
 -- ---- the whole record
 
-by_result : (g : Setting) (words code : List ℕ) (q : Question) (p : Patched × List ℕ) (x : Result (Resolved × List ℕ) RelocationError) → AreBytes code → IsExpected g q (type_word words) x → validates q.kind q.subject ≡ true
+by_result : (g : TablePair) (words code : List ℕ) (q : Question) (p : Patched × List ℕ) (x : Result (Resolved × List ℕ) RelocationError) → AreBytes code → IsExpected g q (type_word words) x → validates q.kind q.subject ≡ true
     → patch_of g code words x ≡ Ok p → p ≡ (Written, code)
 by_result g words code q p (Ok r) bytes gives validated is =
     expected_keeps_the_code g.local.order r.0 code (instruction_word words) p bytes gives.value gives.is_not_poisoned gives.size (gives.validates ∙ validated) is

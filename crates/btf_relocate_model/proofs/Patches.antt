@@ -3,7 +3,7 @@ use Rattle.std.proofs.Common.{◌≡◌, ◌≢◌, ℕ, ◌+◌, ◌-◌, ◌*�
 use Rattle.std.specs.Prelude.{◌⊎◌, ◌==◌, not, nat_lt, nat_le, ◌||◌, if◌then◌else◌}
 use Rattle.std.proofs.lemmas.Bool.Decides.{nat_tests}
 use Rattle.btf_model.specs.declared.endianness.Endianness.{Endianness}
-use Rattle.btf_relocate_model.specs.Instruction.{patched_immediate, patched_offset, patched_slot, patched_wide, patched, narrow, poison, poisoned, is_unexpected, access_size, is_ld_imm64, wide_immediate, sign_extended, size_bits, with_size}
+use Rattle.btf_relocate_model.specs.Instruction.{patched_immediate, patched_offset, patched_slot, patched_wide, patched, narrow, poison, poisoned, is_unexpected, access_size, is_ld_imm64, wide_immediate, sign_extended, width_bits, with_size}
 use Rattle.btf_relocate_model.specs.Laws.{SlotHas, SlotKeeps, HasValue, Keeps, WrittenReadsBack, WrittenKeepsTheRest, PoisonHasAReason}
 use Rattle.btf_relocate_model.specs.declared.error.RelocationError.{RelocationError}
 use Rattle.btf_relocate_model.specs.declared.error.RelocationError.TheVariants.{WrongImmediate, OffsetTooBig, WrongAccessSize, BadLdImm64, NotPatchable}
@@ -19,7 +19,7 @@ same_ok : {A : Type 0} (x z : A) → ◌≡◌ {A = Result A RelocationError} (O
 same_ok x z is = cc
 
 -- the sizes of a load or store
-bits_small : (size bits : ℕ) → size_bits size ≡ Some bits → bits ≤ 3
+bits_small : (size bits : ℕ) → width_bits size ≡ Some bits → bits ≤ 3
 bits_small size bits is = grind (arith, nat_tests)
 
 -- the outcomes of a load or store that is not refused
@@ -54,11 +54,11 @@ offset_result r s u is =
     let z : Patched × Slot = (Written, u) in
     let x : Patched × Slot = (Written, record s { offset = r.value }) in
     let p : Patched × Slot = (Poisoned, poison) in
-    let cases : (x ≡ z) ⊎ ((p ≡ z) ⊎ (with_size r s (size_bits r.target_size) ≡ Ok z)) = outcome (is_unexpected r (sign_extended 16 s.offset)) (nat_lt 32767 r.value) (r.local_size == r.target_size) (not r.is_adjustable) (not (access_size s == r.local_size)) WrongImmediate OffsetTooBig WrongAccessSize x p z (with_size r s (size_bits r.target_size)) is in
+    let cases : (x ≡ z) ⊎ ((p ≡ z) ⊎ (with_size r s (width_bits r.target_size) ≡ Ok z)) = outcome (is_unexpected r (sign_extended 16 s.offset)) (nat_lt 32767 r.value) (r.local_size == r.target_size) (not r.is_adjustable) (not (access_size s == r.local_size)) WrongImmediate OffsetTooBig WrongAccessSize x p z (with_size r s (width_bits r.target_size)) is in
     elim cases [
       | inl same ↦ inl (sym (ap (λ (q : Patched × Slot). q.1) same))
       | inr (inl other) ↦ absurd (no_poison poison u other)
-      | inr (inr other) ↦ resized r s u (size_bits r.target_size) (bits_small r.target_size) other
+      | inr (inr other) ↦ resized r s u (width_bits r.target_size) (bits_small r.target_size) other
     ]
 
 pub offset_written : (r : Resolved) (s u : Slot) → patched_offset r s ≡ Ok (Written, u) → u.offset ≡ r.value
@@ -218,7 +218,7 @@ offset_poisoned r s u is =
     let z : Patched × Slot = (Poisoned, u) in
     let x : Patched × Slot = (Written, record s { offset = r.value }) in
     let p : Patched × Slot = (Poisoned, poison) in
-    let w : Result (Patched × Slot) RelocationError = with_size r s (size_bits r.target_size) in
+    let w : Result (Patched × Slot) RelocationError = with_size r s (width_bits r.target_size) in
     let unexpected = is_unexpected r (sign_extended 16 s.offset) in
     let big = nat_lt 32767 r.value in
     let same = r.local_size == r.target_size in
@@ -232,7 +232,7 @@ offset_poisoned r s u is =
         negated r.is_adjustable reason.1,
       )
       | inr (inl written) ↦ absurd (no_poison u (record s { offset = r.value }) (sym written))
-      | inr (inr sized) ↦ absurd (no_poison_sized r s u (size_bits r.target_size) sized)
+      | inr (inr sized) ↦ absurd (no_poison_sized r s u (width_bits r.target_size) sized)
     ]
   where
     sizes_apart : (m n : ℕ) → (m == n) ≡ false → m ≢ n

@@ -15,8 +15,8 @@ use Rattle.btf_relocate_model.specs.Candidates.{compared_number, is_nameless}
 use Rattle.btf_relocate_model.specs.Enumerator.{enumerators_by}
 use Rattle.btf_relocate_model.specs.Field.{Member, members_of}
 use Rattle.btf_relocate_model.specs.Name.{essential}
-use Rattle.btf_relocate_model.specs.Types.{◌>>=◌, record_at, resolved, name_at, name_or_none}
-use Rattle.btf_relocate_model.specs.Value.{is_signed}
+use Rattle.btf_relocate_model.specs.Types.{◌>>=◌, required_record, resolved, name_at, name_or_none}
+use Rattle.btf_relocate_model.specs.Value.{is_signed_type}
 use Rattle.btf_relocate_model.specs.declared.comparison.Pair.{Pair}
 use Rattle.btf_relocate_model.specs.declared.comparison.Rule.{Rule}
 use Rattle.btf_relocate_model.specs.declared.comparison.Rule.TheVariants.{Compatible, Matches}
@@ -37,15 +37,15 @@ pub data Step : Type 0 where
   EachMember : (members : List Member) → (others : List Member) → Step
 
 -- the types of the parameters in the words of a FUNC_PROTO, which has a name and a type for each
-abbrev pub parameter_types : List ℕ → List ℕ
-parameter_types (name ∷ type ∷ words) = type ∷ parameter_types words
-parameter_types words = []
+abbrev pub parameter_ids : List ℕ → List ℕ
+parameter_ids (name ∷ type ∷ words) = type ∷ parameter_ids words
+parameter_ids words = []
 
 -- two FUNC_PROTOs, whose third words are the types returned
-abbrev pub prototypes : Bool → Record → Record → Step
-prototypes is_pointee r s =
-    if length (parameter_types r.tail) == length (parameter_types s.tail)
-    then EachParameter (parameter_types r.tail) (parameter_types s.tail) (pair is_pointee r.third s.third)
+abbrev pub prototype_step : Bool → Record → Record → Step
+prototype_step is_pointee r s =
+    if length (parameter_ids r.tail) == length (parameter_ids s.tail)
+    then EachParameter (parameter_ids r.tail) (parameter_ids s.tail) (pair is_pointee r.third s.third)
     else Ends false
 
 -- ---- the rule `Compatible`
@@ -55,25 +55,25 @@ abbrev pub compatible_through : Bool → Option Kind → Option Kind → Record 
 compatible_through is_pointee (Some Ptr) (Some Ptr) r s = GoesOn (pair is_pointee r.third s.third)
 compatible_through is_pointee (Some Array) (Some Array) r s =
     GoesOn (pair is_pointee (element_type r) (element_type s))
-compatible_through is_pointee (Some FuncProto) (Some FuncProto) r s = prototypes is_pointee r s
+compatible_through is_pointee (Some FuncProto) (Some FuncProto) r s = prototype_step is_pointee r s
 compatible_through is_pointee k q r s = Ends false
 
 -- two types of one kind
-abbrev pub compatible_by : Bool → Option Kind → Option Kind → Record → Record → Step
-compatible_by is_pointee (Some Unknown) q r s = Ends true
-compatible_by is_pointee (Some Struct) q r s = Ends true
-compatible_by is_pointee (Some Union) q r s = Ends true
-compatible_by is_pointee (Some Enum) q r s = Ends true
-compatible_by is_pointee (Some Enum64) q r s = Ends true
-compatible_by is_pointee (Some Fwd) q r s = Ends true
-compatible_by is_pointee (Some Int) (Some Int) r s = Ends (int_offset r == 0 && int_offset s == 0)
-compatible_by is_pointee k q r s = compatible_through is_pointee k q r s
+abbrev pub step_compatible_by : Bool → Option Kind → Option Kind → Record → Record → Step
+step_compatible_by is_pointee (Some Unknown) q r s = Ends true
+step_compatible_by is_pointee (Some Struct) q r s = Ends true
+step_compatible_by is_pointee (Some Union) q r s = Ends true
+step_compatible_by is_pointee (Some Enum) q r s = Ends true
+step_compatible_by is_pointee (Some Enum64) q r s = Ends true
+step_compatible_by is_pointee (Some Fwd) q r s = Ends true
+step_compatible_by is_pointee (Some Int) (Some Int) r s = Ends (int_offset r == 0 && int_offset s == 0)
+step_compatible_by is_pointee k q r s = compatible_through is_pointee k q r s
 
 -- Types of different kinds are not compatible, but an ENUM64 counts as an ENUM.
 abbrev pub compatible_step : Bool → Record → Record → Step
 compatible_step is_pointee r s =
     if compared_number (kind_number r.info) == compared_number (kind_number s.info)
-    then compatible_by is_pointee (kind_of r.info) (kind_of s.info) r s else Ends false
+    then step_compatible_by is_pointee (kind_of r.info) (kind_of s.info) r s else Ends false
 
 -- ---- the rule `Matches`
 
@@ -145,7 +145,7 @@ declared_by false k q r s = Ends false
 abbrev pub matches_by : Bool → Option Kind → Option Kind → Record → Record → Step
 matches_by is_pointee (Some Unknown) (Some Unknown) r s = Ends true
 matches_by is_pointee (Some Int) (Some Int) r s =
-    Ends (r.third == s.third && beq (is_signed (Some Int) r) (is_signed (Some Int) s))
+    Ends (r.third == s.third && beq (is_signed_type (Some Int) r) (is_signed_type (Some Int) s))
 matches_by is_pointee (Some Ptr) (Some Ptr) r s = GoesOn (pair true r.third s.third)
 matches_by is_pointee (Some Array) (Some Array) r s =
     if slice_index r.tail 2 == slice_index s.tail 2
@@ -162,7 +162,7 @@ matching_step local target is_pointee r s =
 -- The names of two FUNC_PROTOs do not count.
 abbrev pub exact_step : Table → Table → Bool → Option Kind → Option Kind → Record → Record
     → Result Step RelocationError
-exact_step local target is_pointee (Some FuncProto) (Some FuncProto) r s = Ok (prototypes is_pointee r s)
+exact_step local target is_pointee (Some FuncProto) (Some FuncProto) r s = Ok (prototype_step is_pointee r s)
 exact_step local target is_pointee k q r s =
     names_match local target r.name s.name >>= λ same.
     if same then matching_step local target is_pointee r s else Ok (Ends false)
@@ -183,7 +183,7 @@ step_by Matches local target is_pointee r s =
 -- what a rule finds at a pair of types that are no modifiers
 abbrev pub step_at : Comparison → Pair → Result Step RelocationError
 step_at c at =
-    record_at c.local at.local >>= λ r. record_at c.target at.target >>= λ s.
+    required_record c.local at.local >>= λ r. required_record c.target at.target >>= λ s.
     step_by c.rule c.local c.target at.is_pointee r s
 
 -- the pair of the types that two ids resolve to

@@ -35,12 +35,12 @@ enumerators t id =
     resolved_record t id >>= λ r. Ok (enumerators_by (kind_of r.info) r.tail)
 
 -- the enumerator at an index, and its name
-abbrev pub named : Table → Option Variant → Result (Variant × List ℕ) RelocationError
-named t (Some v) = name_at t v.name >>= λ name. Ok (v, name)
-named t None = Err BadIndex
+abbrev pub named_enumerator : Table → Option Variant → Result (Variant × List ℕ) RelocationError
+named_enumerator t (Some v) = name_at t v.name >>= λ name. Ok (v, name)
+named_enumerator t None = Err BadIndex
 
 abbrev pub enumerator_at : Table → ℕ → ℕ → Result (Variant × List ℕ) RelocationError
-enumerator_at t id index = enumerators t id >>= λ vs. named t (slice_get vs index)
+enumerator_at t id index = enumerators t id >>= λ vs. named_enumerator t (slice_get vs index)
 
 -- The first of these enumerators that has the essential name of a name; none if no name agrees. The names are read in
 -- order, up to that one.

@@ -4,14 +4,14 @@
 use Rattle.std.specs.Prelude.{ℕ, ◌+◌, ◌*◌, ◌^◌, ◌==◌, ◌&&◌, ◌||◌, nat_lt, if◌then◌else◌, Bool, true, false, List, [], ◌∷◌, length, slice_get, Option, Some, None, Result, Ok, Err}
 use Rattle.btf_model.specs.Record.{Kind, Array, Struct, Union, Record, kind_of, member_bit_offset, member_bit_field_size}
 use Rattle.btf_model.specs.Table.{Table}
-use Rattle.btf_relocate_model.specs.Types.{◌>>=◌, record_at, resolved, resolved_record, size_of}
+use Rattle.btf_relocate_model.specs.Types.{◌>>=◌, required_record, resolved, resolved_record, size_of}
 use Rattle.btf_relocate_model.specs.declared.error.RelocationError.{RelocationError}
 use Rattle.btf_relocate_model.specs.declared.error.RelocationError.TheVariants.{BitOffsetTooBig}
 use Rattle.btf_relocate_model.specs.declared.field.Field.{Field}
 
 -- a bit after a number of bits, which has 32 bits
-abbrev pub moved : ℕ → ℕ → Result ℕ RelocationError
-moved bit by = if nat_lt (bit + by) (2 ^ 32) then Ok (bit + by) else Err BitOffsetTooBig
+abbrev pub moved_bit : ℕ → ℕ → Result ℕ RelocationError
+moved_bit bit by = if nat_lt (bit + by) (2 ^ 32) then Ok (bit + by) else Err BitOffsetTooBig
 
 -- ---- the type itself and elements
 
@@ -20,13 +20,13 @@ abbrev pub value_at : ℕ → ℕ → Field
 value_at id bit = record { type_id = id; bit = bit; bits = 0; is_member = false; is_last = false }
 
 -- the value at an index of values of a type, which begin at a bit
-abbrev pub placed : ℕ → Table → ℕ → ℕ → ℕ → Result Field RelocationError
-placed pointer t id bit index =
-    size_of pointer t id >>= λ size. moved bit (index * size * 8) >>= λ first. Ok (value_at id first)
+abbrev pub placed_value : ℕ → Table → ℕ → ℕ → ℕ → Result Field RelocationError
+placed_value pointer t id bit index =
+    size_of pointer t id >>= λ size. moved_bit bit (index * size * 8) >>= λ first. Ok (value_at id first)
 
 -- The value of a type at an index, counted in whole values of the type.
 abbrev pub root : ℕ → Table → ℕ → ℕ → Result Field RelocationError
-root pointer t id index = resolved t id >>= λ end. placed pointer t end 0 index
+root pointer t id index = resolved t id >>= λ end. placed_value pointer t end 0 index
 
 -- A flexible array: it has length 0, and is the last member of its type. It has elements at all indices.
 abbrev pub is_flexible : Field → ℕ → Bool
@@ -41,7 +41,7 @@ there (Err e) = Err e
 abbrev pub element_of : ℕ → Table → Field → ℕ → List ℕ → Result (Option Field) RelocationError
 element_of pointer t f index (type ∷ index_type ∷ count ∷ []) =
     if nat_lt index count || is_flexible f count
-    then (resolved t type >>= λ end. there (placed pointer t end f.bit index)) else Ok None
+    then (resolved t type >>= λ end. there (placed_value pointer t end f.bit index)) else Ok None
 element_of pointer t f index words = Ok None
 
 abbrev pub element_by : ℕ → Table → Field → ℕ → Option Kind → Record → Result (Option Field) RelocationError
@@ -51,7 +51,7 @@ element_by pointer t f index k r = Ok None
 -- The element at an index of the ARRAY at a place; none if there is no ARRAY, or no such element.
 abbrev pub element : ℕ → Table → Field → ℕ → Result (Option Field) RelocationError
 element pointer t f index =
-    resolved t f.type_id >>= λ id. record_at t id >>= λ r. element_by pointer t f index (kind_of r.info) r
+    resolved t f.type_id >>= λ id. required_record t id >>= λ r. element_by pointer t f index (kind_of r.info) r
 
 -- ---- members
 
@@ -69,7 +69,7 @@ members_in words = []
 -- a member of a type with this info word, which begins at a bit
 abbrev pub member_field : ℕ → ℕ → Bool → Member → Result Field RelocationError
 member_field info bit is_last m =
-    moved bit (member_bit_offset info m.offset) >>= λ first. Ok (record {
+    moved_bit bit (member_bit_offset info m.offset) >>= λ first. Ok (record {
       type_id = m.type;
       bit = first;
       bits = member_bit_field_size info m.offset;

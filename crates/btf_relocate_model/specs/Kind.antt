@@ -14,22 +14,22 @@ relocation_kinds =
     ∷ TypeIdTarget ∷ TypeExists ∷ TypeSize ∷ EnumeratorExists ∷ EnumeratorValue ∷ TypeMatches ∷ []
 
 -- The result for a number: its kind if the list has one, else an error.
-abbrev pub KindOfNumber : ℕ → Result RelocationKind RelocationError → Type 0
-KindOfNumber n (Ok k) = slice_get relocation_kinds n ≡ Some k
-KindOfNumber n (Err e) = (slice_get relocation_kinds n ≡ None) × (e ≡ UnknownKind n)
+abbrev pub RelocationKindOf : ℕ → Result RelocationKind RelocationError → Type 0
+RelocationKindOf n (Ok k) = slice_get relocation_kinds n ≡ Some k
+RelocationKindOf n (Err e) = (slice_get relocation_kinds n ≡ None) × (e ≡ UnknownKind n)
 
 -- how a kind is printed
-abbrev pub kind_text : RelocationKind → List ℕ
-kind_text FieldByteOffset = codes "byte_off"
-kind_text FieldByteSize = codes "byte_sz"
-kind_text FieldExists = codes "field_exists"
-kind_text FieldSigned = codes "signed"
-kind_text FieldLShift64 = codes "lshift_u64"
-kind_text FieldRShift64 = codes "rshift_u64"
-kind_text TypeIdLocal = codes "local_type_id"
-kind_text TypeIdTarget = codes "target_type_id"
-kind_text TypeExists = codes "type_exists"
-kind_text TypeSize = codes "type_size"
-kind_text EnumeratorExists = codes "enumval_exists"
-kind_text EnumeratorValue = codes "enumval_value"
-kind_text TypeMatches = codes "type_matches"
+abbrev pub relocation_kind_text : RelocationKind → List ℕ
+relocation_kind_text FieldByteOffset = codes "byte_off"
+relocation_kind_text FieldByteSize = codes "byte_sz"
+relocation_kind_text FieldExists = codes "field_exists"
+relocation_kind_text FieldSigned = codes "signed"
+relocation_kind_text FieldLShift64 = codes "lshift_u64"
+relocation_kind_text FieldRShift64 = codes "rshift_u64"
+relocation_kind_text TypeIdLocal = codes "local_type_id"
+relocation_kind_text TypeIdTarget = codes "target_type_id"
+relocation_kind_text TypeExists = codes "type_exists"
+relocation_kind_text TypeSize = codes "type_size"
+relocation_kind_text EnumeratorExists = codes "enumval_exists"
+relocation_kind_text EnumeratorValue = codes "enumval_value"
+relocation_kind_text TypeMatches = codes "type_matches"

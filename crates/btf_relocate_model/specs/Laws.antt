@@ -15,10 +15,10 @@ use Rattle.btf_relocate_model.specs.Match.{match_path}
 use Rattle.btf_relocate_model.specs.Modules.{alone, relocated_section_among}
 use Rattle.btf_relocate_model.specs.Name.{essential}
 use Rattle.btf_relocate_model.specs.Path.{Path, path_of, local_pointer}
-use Rattle.btf_relocate_model.specs.Resolution.{Setting, Question, Subject, Fields, OfField, OfType, OfEnumerator, topic_of, poisons, resolution, question, instruction_word, type_word, rule_of, kind_at, kind_word, match_of, local_match, value_of, validates}
-use Rattle.btf_relocate_model.specs.Section.{candidates_of, code_after, outcome_of, patch_of, relocated_section}
+use Rattle.btf_relocate_model.specs.Resolution.{TablePair, Question, Subject, Fields, OfField, OfType, OfEnumerator, topic_of, poisons, resolution, question, instruction_word, type_word, rule_of, relocation_kind_at, kind_word, match_of, local_match, value_of, validates}
+use Rattle.btf_relocate_model.specs.Section.{candidates_of, code_after, patched_outcome, patch_of, relocated_section}
 use Rattle.btf_relocate_model.specs.Types.{pointer_size, name_at, name_or_none, resolved_record}
-use Rattle.btf_relocate_model.specs.Value.{field_value, number_of}
+use Rattle.btf_relocate_model.specs.Value.{field_value, truth_number}
 use Rattle.btf_relocate_model.specs.declared.comparison.Rule.TheVariants.{Matches}
 use Rattle.btf_relocate_model.specs.declared.error.RelocationError.{RelocationError}
 use Rattle.btf_relocate_model.specs.declared.error.RelocationError.TheVariants.{Ambiguous, AnonymousType, InvalidStringOffset}
@@ -79,7 +79,7 @@ PoisonHasAReason =
 
 -- The error of a value of a field, by its path: candidates give different values, or the field has no value for the
 -- kind, in the program's table or in a candidate that matches.
-abbrev pub IsOfValue : Setting → RelocationKind → List ℕ → Path → RelocationError → Type 0
+abbrev pub IsOfValue : TablePair → RelocationKind → List ℕ → Path → RelocationError → Type 0
 IsOfValue g k candidates path e =
     (e ≡ Ambiguous) ⊎ ((field_value local_pointer g.local k path.field ≡ Err e)
     ⊎ ((i : ℕ) × (c : ℕ) × (f : Field) × (slice_get candidates i ≡ Some c)
@@ -87,7 +87,7 @@ IsOfValue g k candidates path e =
     × (field_value (pointer_size g.target) g.target k f ≡ Err e)))
 
 -- the error of a value of the field that a record is about
-abbrev pub IsOfItsValue : Setting → RelocationKind → List ℕ → List ℕ → RelocationError → Type 0
+abbrev pub IsOfItsValue : TablePair → RelocationKind → List ℕ → List ℕ → RelocationError → Type 0
 IsOfItsValue g k candidates words e =
     (q : Question) × (path : Path) × (question g.local g.target.order words ≡ Ok q) × (q.subject ≡ OfField path)
     × IsOfValue g k candidates path e
@@ -98,7 +98,7 @@ IsOfItsValue g k candidates words e =
 abbrev pub AgreesWith : (RelocationError → Type 0) → Result (Resolved × List ℕ) RelocationError
     → Result (Resolved × List ℕ) RelocationError → Type 0
 AgreesWith of_value (Ok exists) (Ok r) =
-    (exists.0.value ≡ number_of (not r.0.is_poisoned)) × (exists.0.is_poisoned ≡ false) × (exists.1 ≡ r.1)
+    (exists.0.value ≡ truth_number (not r.0.is_poisoned)) × (exists.0.is_poisoned ≡ false) × (exists.1 ≡ r.1)
 AgreesWith of_value (Ok exists) (Err e) = of_value e
 AgreesWith of_value (Err e) (Ok r) = ⊥
 AgreesWith of_value (Err e) (Err other) = (other ≡ e) ⊎ of_value other
@@ -107,7 +107,7 @@ AgreesWith of_value (Err e) (Err other) = (other ≡ e) ⊎ of_value other
 -- type, access string and candidates.
 abbrev pub ExistenceAgrees : Type 0
 ExistenceAgrees =
-    (g : Setting) (candidates : List ℕ) (at type access n : ℕ) (k : RelocationKind)
+    (g : TablePair) (candidates : List ℕ) (at type access n : ℕ) (k : RelocationKind)
     → slice_get relocation_kinds n ≡ Some k → topic_of k ≡ Fields → poisons k ≡ true
     → AgreesWith (IsOfItsValue g k candidates (at ∷ type ∷ access ∷ 2 ∷ []))
     (resolution g candidates (at ∷ type ∷ access ∷ 2 ∷ []))
@@ -132,8 +132,8 @@ code_with order r at code = code_after code (patched_code order r code at)
 abbrev pub PatchesCommute : Type 0
 PatchesCommute =
     (order : Endianness) (r s : Resolved) (code : List ℕ) (at other : ℕ) → AreApart code at other
-    → (outcome_of (patched_code order s (code_with order r at code) other)
-    ≡ outcome_of (patched_code order s code other))
+    → (patched_outcome (patched_code order s (code_with order r at code) other)
+    ≡ patched_outcome (patched_code order s code other))
     × (code_with order s other (code_with order r at code) ≡ code_with order r at (code_with order s other code))
 
 -- Two records share no candidates: each record has all of them, or the two are about different types.
@@ -144,7 +144,7 @@ ShareNone is_shared words others = (is_shared ≡ false) ⊎ (type_word words �
 -- that the records before them leave. Then their outcomes change places, and all else is the same.
 abbrev pub NeighboursExchange : Type 0
 NeighboursExchange =
-    (g : Setting) (is_shared : Bool) (code : List ℕ) (before after : List (List ℕ)) (words others : List ℕ)
+    (g : TablePair) (is_shared : Bool) (code : List ℕ) (before after : List (List ℕ)) (words others : List ℕ)
     → let run = relocated_section g is_shared code in
     ShareNone is_shared words others
     → AreApart (run before).1 (instruction_word words) (instruction_word others)
@@ -168,7 +168,7 @@ with_strings more t = record t { strings = t.strings ++ more }
 
 -- Strings that are appended to the program's table do not change the comparisons of `TypeMatches`, except where a name
 -- had no text before them. In that comparison a name without a text counts as empty beside an empty name of the target.
-abbrev pub MatchesAlike : List ℕ → Setting → Type 0
+abbrev pub MatchesAlike : List ℕ → TablePair → Type 0
 MatchesAlike more g =
     (id c : ℕ) → SameOrUnread g.local.strings
     (types_alike (record { rule = Matches; local = g.local; target = g.target }) id c)
@@ -177,7 +177,7 @@ MatchesAlike more g =
 -- Strings that are appended to the program's table change no resolution, except where a name had no text before them.
 abbrev pub StringsMayBeAppended : Type 0
 StringsMayBeAppended =
-    (g : Setting) (more candidates words : List ℕ) → (kind_at (kind_word words) ≡ Ok TypeMatches → MatchesAlike more g)
+    (g : TablePair) (more candidates words : List ℕ) → (relocation_kind_at (kind_word words) ≡ Ok TypeMatches → MatchesAlike more g)
     → SameOrUnread g.local.strings (resolution g candidates words)
     (resolution (record g { local = with_strings more g.local }) candidates words)
 
@@ -220,7 +220,7 @@ PathsMatchThemselves =
 -- ---- the program's own table as the target
 
 -- The target is the program's own table, and its pointers have the size that they have in the program.
-pub record IsOwn (g : Setting) : Type 0 where
+pub record IsOwn (g : TablePair) : Type 0 where
   pub table : g.target ≡ g.local
   pub pointer : pointer_size g.target ≡ local_pointer
 
@@ -233,7 +233,7 @@ HasPlainEnumerators t id =
 
 -- What makes a type match itself, for a subject. For a kind that compares types, the comparison of the type with itself
 -- is true, if it is not refused. libbpf's comparison is false for a FLOAT, because it has no case for this kind.
-abbrev pub MatchesItself : Setting → RelocationKind → ℕ → Subject → Type 0
+abbrev pub MatchesItself : TablePair → RelocationKind → ℕ → Subject → Type 0
 MatchesItself g k id (OfField path) = HasPlainMembers g.local
 MatchesItself g k id (OfType other) =
     (b : Bool) → types_alike (record { rule = rule_of k; local = g.local; target = g.target }) id id ≡ Ok b → b ≡ true
@@ -248,7 +248,7 @@ pub record GivesTheExpected (q : Question) (id : ℕ) (r : Resolved × List ℕ)
   pub remaining : r.1 ≡ id ∷ []
 
 -- The same for a result. An error is that the type has no name, or the error of the value, or of the match.
-abbrev pub IsExpected : Setting → Question → ℕ → Result (Resolved × List ℕ) RelocationError → Type 0
+abbrev pub IsExpected : TablePair → Question → ℕ → Result (Resolved × List ℕ) RelocationError → Type 0
 IsExpected g q id (Ok r) = GivesTheExpected q id r
 IsExpected g q id (Err e) =
     (e ≡ AnonymousType id) ⊎ ((value_of local_pointer g.local q.kind (local_match q.subject) ≡ Err e)
@@ -257,7 +257,7 @@ IsExpected g q id (Err e) =
 -- Against the program's own table, with its own type as the one candidate, a record gives the expected value.
 abbrev pub OwnTableGivesTheExpected : Type 0
 OwnTableGivesTheExpected =
-    (g : Setting) (words : List ℕ) (q : Question) → IsOwn g → question g.local g.target.order words ≡ Ok q
+    (g : TablePair) (words : List ℕ) (q : Question) → IsOwn g → question g.local g.target.order words ≡ Ok q
     → MatchesItself g q.kind (type_word words) q.subject
     → IsExpected g q (type_word words) (resolution g (type_word words ∷ []) words)
 
@@ -277,13 +277,13 @@ ExpectedKeepsTheCode =
 -- leaves the code as it is.
 abbrev pub OwnTableKeepsTheCode : Type 0
 OwnTableKeepsTheCode =
-    (g : Setting) (words code : List ℕ) (q : Question) (p : Patched × List ℕ) → AreBytes code → IsOwn g
+    (g : TablePair) (words code : List ℕ) (q : Question) (p : Patched × List ℕ) → AreBytes code → IsOwn g
     → question g.local g.target.order words ≡ Ok q → MatchesItself g q.kind (type_word words) q.subject
     → validates q.kind q.subject ≡ true
     → patch_of g code words (resolution g (type_word words ∷ []) words) ≡ Ok p → p ≡ (Written, code)
 
 -- A record whose type is its one candidate in the target, and which validates its instruction, if it asks a question.
-pub record IsOwnRecord (g : Setting) (words : List ℕ) : Type 0 where
+pub record IsOwnRecord (g : TablePair) (words : List ℕ) : Type 0 where
   pub alone : candidates_of g.local g.target (type_word words) ≡ type_word words ∷ []
   pub matches : (q : Question) → question g.local g.target.order words ≡ Ok q
       → MatchesItself g q.kind (type_word words) q.subject × (validates q.kind q.subject ≡ true)
@@ -291,7 +291,7 @@ pub record IsOwnRecord (g : Setting) (words : List ℕ) : Type 0 where
 -- Against the program's own table, such records leave the code of a section as it is, under both policies.
 abbrev pub OwnTableKeepsTheSection : Type 0
 OwnTableKeepsTheSection =
-    (g : Setting) (is_shared : Bool) (code : List ℕ) (records : List (List ℕ)) → AreBytes code → IsOwn g
+    (g : TablePair) (is_shared : Bool) (code : List ℕ) (records : List (List ℕ)) → AreBytes code → IsOwn g
     → ((i : ℕ) (words : List ℕ) → slice_get records i ≡ Some words → IsOwnRecord g words)
     → (relocated_section g is_shared code records).1 ≡ code
 

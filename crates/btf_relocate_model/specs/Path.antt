@@ -16,18 +16,18 @@ local_pointer = 8
 
 -- A step of a path: the element at an index, where the first step counts whole values of the type, or the member of a
 -- name, with the id of its type. A member without a name is no step, because the target may have its members elsewhere.
-pub data Step : Type 0 where
-  AtIndex : (index : ℕ) → Step
-  ToMember : (name : List ℕ) → (type : ℕ) → Step
+pub data PathStep : Type 0 where
+  AtIndex : (index : ℕ) → PathStep
+  ToMember : (name : List ℕ) → (type : ℕ) → PathStep
 
 -- the place that an index leads to, and the step to it, if it is one
 pub record Place : Type 0 where
   pub field : Field
-  pub step : Option Step
+  pub step : Option PathStep
 
 -- the path that an access describes: its steps, and the place that it leads to
 pub record Path : Type 0 where
-  pub steps : List Step
+  pub steps : List PathStep
   pub field : Field
 
 -- ---- one index
@@ -65,19 +65,19 @@ place_at t around index = member t around index >>= place_by t around index
 -- ---- all indices
 
 -- the path of one place, which has to be a step
-abbrev pub ended : Field → Option Step → Result Path RelocationError
-ended f (Some s) = Ok (record { steps = s ∷ []; field = f })
-ended f None = Err BadAccess
+abbrev pub ended_path : Field → Option PathStep → Result Path RelocationError
+ended_path f (Some s) = Ok (record { steps = s ∷ []; field = f })
+ended_path f None = Err BadAccess
 
 -- a path after a step, if there is one
-abbrev pub after : Option Step → Path → Path
-after (Some s) p = record { steps = s ∷ p.steps; field = p.field }
-after None p = p
+abbrev pub after_step : Option PathStep → Path → Path
+after_step (Some s) p = record { steps = s ∷ p.steps; field = p.field }
+after_step None p = p
 
 -- the path from a place on
 abbrev pub path_from : Table → Place → List ℕ → Result Path RelocationError
-path_from t p [] = ended p.field p.step
-path_from t p (i ∷ is) = place_at t p.field i >>= λ q. path_from t q is >>= λ path. Ok (after p.step path)
+path_from t p [] = ended_path p.field p.step
+path_from t p (i ∷ is) = place_at t p.field i >>= λ q. path_from t q is >>= λ path. Ok (after_step p.step path)
 
 -- The path that the indices of an access describe, from a type on.
 abbrev pub path_of : Table → ℕ → List ℕ → Result Path RelocationError

@@ -15,7 +15,7 @@ use Rattle.btf_relocate_model.specs.Enumerator.{enumerator_at, find_enumerator}
 use Rattle.btf_relocate_model.specs.Kind.{relocation_kinds}
 use Rattle.btf_relocate_model.specs.Match.{match_path}
 use Rattle.btf_relocate_model.specs.Path.{Path, path_of, local_pointer}
-use Rattle.btf_relocate_model.specs.Types.{◌>>=◌, record_at, name_at, size_of, pointer_size}
+use Rattle.btf_relocate_model.specs.Types.{◌>>=◌, required_record, name_at, size_of, pointer_size}
 use Rattle.btf_relocate_model.specs.Value.{field_value, plain, is_adjustable}
 use Rattle.btf_relocate_model.specs.declared.answer.Answer.{Answer}
 use Rattle.btf_relocate_model.specs.declared.answer.Match.{Match}
@@ -49,8 +49,8 @@ kind_or_unknown n (Some k) = Ok k
 kind_or_unknown n None = Err (UnknownKind n)
 
 -- the kind of a record
-abbrev pub kind_at : ℕ → Result RelocationKind RelocationError
-kind_at n = kind_or_unknown n (slice_get relocation_kinds n)
+abbrev pub relocation_kind_at : ℕ → Result RelocationKind RelocationError
+relocation_kind_at n = kind_or_unknown n (slice_get relocation_kinds n)
 
 -- ---- what a record is about
 
@@ -165,10 +165,10 @@ abbrev pub agree : Answer → Answer → Bool
 agree a b = a.bit == b.bit && a.value.value == b.value.value
 
 -- the first answer, where the next one has to agree with it
-abbrev pub joined : Option Answer → Option Answer → Result (Option Answer) RelocationError
-joined (Some a) (Some b) = if agree a b then Ok (Some a) else Err Ambiguous
-joined (Some a) None = Ok (Some a)
-joined None b = Ok b
+abbrev pub joined_answer : Option Answer → Option Answer → Result (Option Answer) RelocationError
+joined_answer (Some a) (Some b) = if agree a b then Ok (Some a) else Err Ambiguous
+joined_answer (Some a) None = Ok (Some a)
+joined_answer None b = Ok b
 
 -- a candidate is retained if it matches
 abbrev pub retained : ℕ → Option Answer → List ℕ → List ℕ
@@ -180,7 +180,7 @@ abbrev pub answers : (ℕ → Result (Option Answer) RelocationError) → Option
     → Result (Option Answer × List ℕ) RelocationError
 answers answer first [] = Ok (first, [])
 answers answer first (c ∷ cs) =
-    answer c >>= λ a. joined first a >>= λ next. answers answer next cs >>= λ rest. Ok (rest.0, retained c a rest.1)
+    answer c >>= λ a. joined_answer first a >>= λ next. answers answer next cs >>= λ rest. Ok (rest.0, retained c a rest.1)
 
 -- ---- the result
 
@@ -215,7 +215,7 @@ adjustable_by r s = false
 abbrev pub may_resize : Table → Table → Value → Value → Bool
 may_resize local t expected value =
     if expected.size == value.size then true
-    else adjustable_by (record_at local expected.type_id) (record_at t value.type_id)
+    else adjustable_by (required_record local expected.type_id) (required_record t value.type_id)
 
 -- a record that needs no search: the id of the program's own type
 abbrev pub local_id : ℕ → Resolved
@@ -256,17 +256,17 @@ remaining before (Some a) matching = matching
 remaining before None matching = before
 
 -- A program's table, and the table of the target.
-pub record Setting : Type 0 where
+pub record TablePair : Type 0 where
   pub local : Table
   pub target : Table
 
 -- the answer that a candidate has for a subject
-abbrev pub candidate_answer : Setting → RelocationKind → Subject → ℕ → Result (Option Answer) RelocationError
+abbrev pub candidate_answer : TablePair → RelocationKind → Subject → ℕ → Result (Option Answer) RelocationError
 candidate_answer g k s c =
     match_of k g.local (pointer_size g.target) g.target s c >>= answer_of (pointer_size g.target) g.target k
 
 -- a record whose kind needs a search, after its local value
-abbrev pub searched : Setting → RelocationKind → Subject → List ℕ → Value → Result (Resolved × List ℕ) RelocationError
+abbrev pub searched : TablePair → RelocationKind → Subject → List ℕ → Value → Result (Resolved × List ℕ) RelocationError
 searched g k s candidates expected =
     answers (candidate_answer g k s) None candidates >>= λ found.
     Ok (resolved_by g.local g.target k (validates k s) expected found.0, remaining candidates found.0 found.1)
@@ -291,7 +291,7 @@ answered_by local search id candidates q =
     else (if is_nameless q.name then Err (AnonymousType id)
     else (value_of local_pointer local q.kind (local_match q.subject) >>= search q.kind q.subject))
 
-abbrev pub answered : Setting → ℕ → List ℕ → Question → Result (Resolved × List ℕ) RelocationError
+abbrev pub answered : TablePair → ℕ → List ℕ → Question → Result (Resolved × List ℕ) RelocationError
 answered g id candidates q = answered_by g.local (λ k s. searched g k s candidates) id candidates q
 
 -- two tables have one byte order
@@ -303,14 +303,14 @@ same_order o q = false
 -- What a record asks, in a program's table, for a target of a byte order.
 abbrev pub question : Table → Endianness → List ℕ → Result Question RelocationError
 question t order words =
-    kind_at (kind_word words) >>= λ k.
+    relocation_kind_at (kind_word words) >>= λ k.
     if not (same_order t.order order) then Err OrderMismatch
-    else (record_at t (type_word words) >>= λ r. name_at t r.name >>= λ name.
+    else (required_record t (type_word words) >>= λ r. name_at t r.name >>= λ name.
     name_at t (access_word words) >>= λ access. subject_of t k (type_word words) access >>= λ s.
     Ok (record { kind = k; name = name; subject = s }))
 
 -- What a record asks to be written, and the candidates that remain for the next record of its type. The first error in
 -- this order refuses the record.
-abbrev pub resolution : Setting → List ℕ → List ℕ → Result (Resolved × List ℕ) RelocationError
+abbrev pub resolution : TablePair → List ℕ → List ℕ → Result (Resolved × List ℕ) RelocationError
 resolution g candidates words =
     question g.local g.target.order words >>= answered g (type_word words) candidates

@@ -9,7 +9,7 @@ use Rattle.btf_relocate_model.specs.Candidates.{candidates}
 use Rattle.btf_relocate_model.specs.Compatible.{compatible_within}
 use Rattle.btf_relocate_model.specs.Match.{match_path}
 use Rattle.btf_relocate_model.specs.Path.{AtIndex, ToMember, path_of}
-use Rattle.btf_relocate_model.specs.Resolution.{Setting, resolution}
+use Rattle.btf_relocate_model.specs.Resolution.{TablePair, resolution}
 use Rattle.btf_relocate_model.specs.Search.{search}
 use Rattle.btf_relocate_model.specs.Types.{walk}
 use Rattle.btf_relocate_model.specs.declared.error.RelocationError.TheVariants.{BadAccess, BadIndex, TooDeep, UnknownBtfType, UnknownKind}
@@ -72,7 +72,7 @@ matches :
 unfolding local target table structure int texts member_at walk search compatible_within
 matches = (refl, refl)
 
-setting : Setting
+setting : TablePair
 setting = record { local = local; target = target }
 
 -- an offset of 4 bytes, whose field has 4 bytes in both tables

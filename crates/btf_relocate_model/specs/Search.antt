@@ -6,7 +6,7 @@ use Rattle.std.specs.Str.{bytes_eq}
 use Rattle.btf_model.specs.Record.{member_bit_offset}
 use Rattle.btf_model.specs.Table.{Table}
 use Rattle.btf_relocate_model.specs.Candidates.{is_nameless}
-use Rattle.btf_relocate_model.specs.Field.{Member, member_field, members_of, moved}
+use Rattle.btf_relocate_model.specs.Field.{Member, member_field, members_of, moved_bit}
 use Rattle.btf_relocate_model.specs.Types.{◌>>=◌, name_or_none, resolved_record}
 use Rattle.btf_relocate_model.specs.declared.error.RelocationError.{RelocationError}
 use Rattle.btf_relocate_model.specs.declared.error.RelocationError.TheVariants.{TooDeep}
@@ -25,7 +25,7 @@ is_end ms = false
 -- what was found in a member without a name, which begins at this bit of the type around it
 abbrev pub further_out : ℕ → Found → Result (Option Found) RelocationError
 further_out bit found =
-    moved bit found.field.bit >>= λ first.
+    moved_bit bit found.field.bit >>= λ first.
     Ok (Some (record { field = record found.field { bit = first }; count = suc found.count }))
 
 -- what a member without a name has; else what later members have

@@ -7,7 +7,7 @@ use Rattle.btf_model.specs.Table.{Table}
 use Rattle.btf_model.specs.declared.endianness.Endianness.{Endianness}
 use Rattle.btf_relocate_model.specs.Candidates.{candidates}
 use Rattle.btf_relocate_model.specs.Instruction.{patched_code}
-use Rattle.btf_relocate_model.specs.Resolution.{Setting, resolution, type_word, instruction_word}
+use Rattle.btf_relocate_model.specs.Resolution.{TablePair, resolution, type_word, instruction_word}
 use Rattle.btf_relocate_model.specs.Types.{name_or_none}
 use Rattle.btf_relocate_model.specs.declared.error.RelocationError.{RelocationError}
 use Rattle.btf_relocate_model.specs.declared.instruction.Patched.{Patched}
@@ -28,9 +28,9 @@ abbrev pub code_after : List ℕ → Result (Patched × List ℕ) RelocationErro
 code_after code (Ok p) = p.1
 code_after code (Err e) = code
 
-abbrev pub outcome_of : Result (Patched × List ℕ) RelocationError → Result Patched RelocationError
-outcome_of (Ok p) = Ok p.0
-outcome_of (Err e) = Err e
+abbrev pub patched_outcome : Result (Patched × List ℕ) RelocationError → Result Patched RelocationError
+patched_outcome (Ok p) = Ok p.0
+patched_outcome (Err e) = Err e
 
 -- the patch of a record of a program of this byte order
 abbrev pub patch_in : {A : Type 0} → Endianness → List ℕ → List ℕ → Result (Resolved × A) RelocationError
@@ -38,7 +38,7 @@ abbrev pub patch_in : {A : Type 0} → Endianness → List ℕ → List ℕ → 
 patch_in order code words (Ok r) = patched_code order r.0 code (instruction_word words)
 patch_in order code words (Err e) = Err e
 
-abbrev pub patch_of : Setting → List ℕ → List ℕ → Result (Resolved × List ℕ) RelocationError
+abbrev pub patch_of : TablePair → List ℕ → List ℕ → Result (Resolved × List ℕ) RelocationError
     → Result (Patched × List ℕ) RelocationError
 patch_of g code words r = patch_in g.local.order code words r
 
@@ -71,17 +71,17 @@ relocated_by order resolve is_shared left code [] = ([], code)
 relocated_by order resolve is_shared left code (words ∷ records) =
     let r = resolve (left (type_word words)) words in
     let p = patch_in order code words r in
-    then_outcomes (outcome_of p)
+    then_outcomes (patched_outcome p)
     (relocated_by order resolve is_shared (left_after is_shared words r left) (code_after code p) records)
 
 -- the same for one target table
-abbrev pub relocated_from : Setting → Bool → (ℕ → List ℕ) → List ℕ → List (List ℕ)
+abbrev pub section_relocated_from : TablePair → Bool → (ℕ → List ℕ) → List ℕ → List (List ℕ)
     → List (Result Patched RelocationError) × List ℕ
-relocated_from g is_shared left code records =
+section_relocated_from g is_shared left code records =
     relocated_by g.local.order (resolution g) is_shared left code records
 
 -- The outcome of each record of a section, and its code after all of them.
-abbrev pub relocated_section : Setting → Bool → List ℕ → List (List ℕ)
+abbrev pub relocated_section : TablePair → Bool → List ℕ → List (List ℕ)
     → List (Result Patched RelocationError) × List ℕ
 relocated_section g is_shared code records =
-    relocated_from g is_shared (candidates_of g.local g.target) code records
+    section_relocated_from g is_shared (candidates_of g.local g.target) code records

@@ -7,7 +7,7 @@ use Rattle.btf_model.specs.Record.{Record, unknown}
 use Rattle.btf_model.specs.Table.{Table}
 use Rattle.btf_model.specs.declared.endianness.Endianness.TheVariants.{Little}
 use Rattle.btf_relocate_model.specs.Compatible.{compatible_within}
-use Rattle.btf_relocate_model.specs.Resolution.{Setting}
+use Rattle.btf_relocate_model.specs.Resolution.{TablePair}
 use Rattle.btf_relocate_model.specs.Search.{search}
 use Rattle.btf_relocate_model.specs.Section.{relocated_section}
 use Rattle.btf_relocate_model.specs.Types.{walk}
@@ -44,21 +44,21 @@ table texts records = record {
 }
 
 -- the target has these types
-setting : List Record → Setting
+setting : List Record → TablePair
 setting records = record {
   local = table local_texts (int ∷ structure 5 2 (7 ∷ 1 ∷ 0 ∷ 9 ∷ 1 ∷ 32 ∷ []) ∷ []);
   target = table target_texts records;
 }
 
 -- the target with both structs, and a target without them
-both : Setting
+both : TablePair
 both = setting (int ∷ structure 5 1 (7 ∷ 1 ∷ 0 ∷ []) ∷ structure 9 2 (15 ∷ 1 ∷ 0 ∷ 7 ∷ 1 ∷ 32 ∷ []) ∷ [])
 
-neither : Setting
+neither : TablePair
 neither = setting (int ∷ [])
 
 -- the program's own table as the target
-own : Setting
+own : TablePair
 own = record neither { target = table local_texts (int ∷ structure 5 2 (7 ∷ 1 ∷ 0 ∷ 9 ∷ 1 ∷ 32 ∷ []) ∷ []) }
 
 -- a load of 4 bytes at an offset

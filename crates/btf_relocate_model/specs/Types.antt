@@ -22,12 +22,12 @@ abbrev pub ◌>>=◌ : {A B : Type 0} → Result A RelocationError → (A → Re
 -- ---- records and names
 
 -- the record of an id
-abbrev pub known : ℕ → Option Record → Result Record RelocationError
-known id (Some r) = Ok r
-known id None = Err (UnknownBtfType id)
+abbrev pub known_record : ℕ → Option Record → Result Record RelocationError
+known_record id (Some r) = Ok r
+known_record id None = Err (UnknownBtfType id)
 
-abbrev pub record_at : Table → ℕ → Result Record RelocationError
-record_at t id = known id (slice_get t.records id)
+abbrev pub required_record : Table → ℕ → Result Record RelocationError
+required_record t id = known_record id (slice_get t.records id)
 
 -- the bytes of a name that is needed
 abbrev pub readable : ℕ → Option (List ℕ) → Result (List ℕ) RelocationError
@@ -59,18 +59,18 @@ walk find zero place = None
 walk find (suc n) place = walk_on (walk find n) (find place)
 
 -- The id that a walk over modifiers ends with. Such a walk is refused at an unknown id alone.
-abbrev pub resolved_by : ℕ → Option (Result ℕ Refusal) → Result ℕ RelocationError
-resolved_by id (Some (Ok end)) = Ok end
-resolved_by id (Some (Err (refusals.UnknownBtfType unknown))) = Err (UnknownBtfType unknown)
-resolved_by id answer = Err (MaximumTypeDepthReached id)
+abbrev pub walked_id : ℕ → Option (Result ℕ Refusal) → Result ℕ RelocationError
+walked_id id (Some (Ok end)) = Ok end
+walked_id id (Some (Err (refusals.UnknownBtfType unknown))) = Err (UnknownBtfType unknown)
+walked_id id answer = Err (MaximumTypeDepthReached id)
 
 -- The first type from an id on that is no TYPEDEF, VOLATILE, CONST, RESTRICT or TYPE_TAG, among the first 32.
 abbrev pub resolved : Table → ℕ → Result ℕ RelocationError
-resolved t id = resolved_by id (walk (λ at. unmodified_in at (slice_get t.records at)) walk_limit id)
+resolved t id = walked_id id (walk (λ at. unmodified_in at (slice_get t.records at)) walk_limit id)
 
 -- the record of the type that an id resolves to
 abbrev pub resolved_record : Table → ℕ → Result Record RelocationError
-resolved_record t id = resolved t id >>= λ end. record_at t end
+resolved_record t id = resolved t id >>= λ end. required_record t end
 
 -- ---- sizes
 

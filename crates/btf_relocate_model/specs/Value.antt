@@ -6,7 +6,7 @@ use Rattle.btf_model.specs.Record.{Kind, Int, Ptr, Enum, Enum64, Record, kind_of
 use Rattle.btf_model.specs.Table.{Table}
 use Rattle.btf_model.specs.declared.endianness.Endianness.{Endianness}
 use Rattle.btf_model.specs.declared.endianness.Endianness.TheVariants.{Little, Big}
-use Rattle.btf_relocate_model.specs.Types.{◌>>=◌, record_at, resolved, size_of}
+use Rattle.btf_relocate_model.specs.Types.{◌>>=◌, required_record, resolved, size_of}
 use Rattle.btf_relocate_model.specs.declared.error.RelocationError.{RelocationError}
 use Rattle.btf_relocate_model.specs.declared.error.RelocationError.TheVariants.{NotForElement, BadBitfield, BitfieldTooWide, ShiftTooWide}
 use Rattle.btf_relocate_model.specs.declared.field.Field.{Field}
@@ -53,7 +53,7 @@ bit_field_load_of f id size =
 -- The load of a bit-field whose type resolves to an id: the least aligned load, from the size of the type on, that
 -- holds all of its bits.
 abbrev pub bit_field_load : Table → Field → ℕ → Result Load RelocationError
-bit_field_load t f id = record_at t id >>= λ r. bit_field_load_of f id (bit_field_size (kind_of r.info) r)
+bit_field_load t f id = required_record t id >>= λ r. bit_field_load_of f id (bit_field_size (kind_of r.info) r)
 
 -- a member that is no bit-field
 abbrev pub plain_load : Field → ℕ → Load
@@ -83,11 +83,11 @@ abbrev pub encoding : Record → ℕ
 encoding r = slice_index r.tail 0 / 2 ^ 24 % 2 ^ 4
 
 -- A signed type: an INT whose encoding has bit 0, or an ENUM or ENUM64 with the kind flag.
-abbrev pub is_signed : Option Kind → Record → Bool
-is_signed (Some Int) r = encoding r % 2 == 1
-is_signed (Some Enum) r = kind_flag r.info == 1
-is_signed (Some Enum64) r = kind_flag r.info == 1
-is_signed k r = false
+abbrev pub is_signed_type : Option Kind → Record → Bool
+is_signed_type (Some Int) r = encoding r % 2 == 1
+is_signed_type (Some Enum) r = kind_flag r.info == 1
+is_signed_type (Some Enum64) r = kind_flag r.info == 1
+is_signed_type k r = false
 
 -- ---- sizes of loads and stores
 
@@ -109,9 +109,9 @@ plainly (Ok value) = Ok (plain value)
 plainly (Err e) = Err e
 
 -- one or zero
-abbrev pub number_of : Bool → ℕ
-number_of true = 1
-number_of false = 0
+abbrev pub truth_number : Bool → ℕ
+truth_number true = 1
+truth_number false = 0
 
 -- the offset of a load, which sets the size of a load or store unless the member is a bit-field
 abbrev pub offset_value : Field → ℕ → Load → Value
@@ -123,7 +123,7 @@ abbrev pub member_value : Table → RelocationKind → Field → ℕ → Load �
 member_value t FieldByteOffset f id l = Ok (offset_value f id l)
 member_value t FieldByteSize f id l = Ok (plain l.size)
 member_value t FieldSigned f id l =
-    record_at t id >>= λ r. Ok (plain (number_of (is_signed (kind_of r.info) r)))
+    required_record t id >>= λ r. Ok (plain (truth_number (is_signed_type (kind_of r.info) r)))
 member_value t FieldLShift64 f id l = plainly (left_shift t.order l)
 member_value t FieldRShift64 f id l = plainly (rest_of 64 l.bits)
 member_value t k f id l = Ok (plain 0)

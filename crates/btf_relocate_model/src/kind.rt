@@ -1,7 +1,7 @@
 //! The kinds of relocations.
 
 ghost use Rattle.std.specs.Prelude.{Some};
-ghost use Rattle.btf_relocate_model.specs.Kind.{KindOfNumber, kind_text};
+ghost use Rattle.btf_relocate_model.specs.Kind.{RelocationKindOf, relocation_kind_text};
 
 use crate::error::RelocationError;
 use std::fmt;
@@ -40,7 +40,7 @@ pub enum RelocationKind {
 impl TryFrom<u32> for RelocationKind {
     type Error = RelocationError;
 
-    ghost try_from_gives = { KindOfNumber };
+    ghost try_from_gives = { RelocationKindOf };
 
     /// The kind of a number. Numbers above 12 are `UnknownKind`.
     fn try_from(number: u32) -> Result<Self, RelocationError> {
@@ -64,7 +64,7 @@ impl TryFrom<u32> for RelocationKind {
 }
 
 impl fmt::Display for RelocationKind {
-    ghost output = { λ k. Some (kind_text k) };
+    ghost output = { λ k. Some (relocation_kind_text k) };
 
     fn fmt<W: fmt::Write>(&self, f: &mut fmt::Formatter<W>) -> fmt::Result {
         let name = match self {

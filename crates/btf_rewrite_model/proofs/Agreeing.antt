@@ -13,8 +13,8 @@ use Rattle.btf_rewrite_model.specs.declared.feature.BtfFeature.TheVariants as fe
 use Rattle.btf_rewrite_model.specs.Feature.{grants, same_feature, is_global, is_signed, has_no_entries, fills_sized, is_sized_and_empty}
 use Rattle.btf_rewrite_model.specs.declared.feature.BtfFeature.{BtfFeature}
 use Rattle.btf_rewrite_model.specs.declared.feature.FeatureAnswer.{FeatureAnswer}
-use Rattle.btf_rewrite_model.specs.Made.{entries, variants, record_at, kind_at, byte_int, static_var, const, typedef, struct, union, enum, data_sec, with_linkage, unsigned}
-use Rattle.btf_rewrite_model.specs.Checks.{Check, first_fault, is_read, has_room, have_room, fits, record_len}
+use Rattle.btf_rewrite_model.specs.Made.{entries, variants, record_at, kind_at, byte_int, static_var, const, typedef, struct, union, enum, made_data_sec, with_linkage, unsigned}
+use Rattle.btf_rewrite_model.specs.Checks.{Check, first_fault, name_is_read, has_room, have_room, fits, record_len}
 use Rattle.btf_model.specs.Table.{type_bytes}
 use Rattle.btf_rewrite_model.specs.Pass.{Pass, has, name_of, name_checks, least, passing_or, is_least, renaming, section_size, is_unsized, is_zero_or, is_positive, fills_sized_one, fills_unsized, gets_filler, sized_asks_zero, unsized_asks_zero, makes_filler, wants_member_type, makes_member_type, param_texts, filler, filler_type_text, filler_text, member_type_text, texts, texts_by, texts_below, texts_len, offset_at, filler_offset, added_by, added_below, with_added, free_id, added, growth_below, type_len_at, func_asks, asks_by, asks, asks_below, is_builtin, is_enum64}
 use Rattle.btf_rewrite_model.specs.Rule.{becomes_by, ruled_below, with_ruled, known_func, new_name, name_or, filler_id, placed, named_params, variant_members, entry_members, member_type_id}
@@ -107,7 +107,7 @@ abbrev pub IsNamed : Pass → ℕ → Type 0
 IsNamed p id = first_fault (name_checks p id) ≡ None
 
 pub name_room : (p : Pass) (id : ℕ) → IsNamed p id → is_none (first_fault (have_room (offset_at p id) (renaming p (name_of p id)))) ≡ true
-name_room p id named = ap is_none (passed_tail (is_read (name_of p id)) (have_room (offset_at p id) (renaming p (name_of p id))) named)
+name_room p id named = ap is_none (passed_tail (name_is_read (name_of p id)) (have_room (offset_at p id) (renaming p (name_of p id))) named)
 
 abbrev asks_zero : Pass → ℕ → Bool
 asks_zero p id = has p features.DataSec && (sized_asks_zero p id (record_at p.table id) || unsized_asks_zero p id (record_at p.table id))
@@ -221,7 +221,7 @@ rooms_same p answers id offset same = ap (λ (o : ℕ). have_room o (renaming (w
 
 names_same : (p : Pass) (answers : List FeatureAnswer) (id : ℕ) → offset_at (with_answers p answers) id ≡ offset_at p id → renaming (with_answers p answers) (name_of p id) ≡ renaming p (name_of p id)
     → name_checks (with_answers p answers) id ≡ name_checks p id
-names_same p answers id offset same = ap (λ (cs : List Check). is_read (name_of p id) ∷ cs) (rooms_same p answers id offset same)
+names_same p answers id offset same = ap (λ (cs : List Check). name_is_read (name_of p id) ∷ cs) (rooms_same p answers id offset same)
 
 asks_same : (p : Pass) (answers : List FeatureAnswer) (id : ℕ) (k : Option Kind) → kind_at p.table id ≡ k → AgreeAt p answers id → offset_at (with_answers p answers) id ≡ offset_at p id
     → asks_by (with_answers p answers) id k (record_at p.table id) ≡ asks_by p id k (record_at p.table id)
@@ -247,7 +247,7 @@ asks_same p answers id k kind agree offset = refl
 record Same (p : Pass) (answers : List FeatureAnswer) (id : ℕ) : Type 0 where
   agree : AgreeAt p answers id
   offset : offset_at (with_answers p answers) id ≡ offset_at p id
-  read : kind_at p.table id ≡ Some kinds.Func → is_read (name_of p id) ≡ None
+  read : kind_at p.table id ≡ Some kinds.Func → name_is_read (name_of p id) ≡ None
   gets : gets_filler (with_answers p answers) id ≡ gets_filler p id
   filler_at : filler_id (with_answers p answers) id ≡ filler_id p id
   member_type : kind_at p.table id ≡ Some kinds.Enum64 → member_type_id (with_answers p answers) id ≡ member_type_id p id
@@ -264,7 +264,7 @@ asked_too true true true is_d is_g is_b = absurd (false≢true (sym is_b))
 asked_too true false b is_d is_g is_b = absurd (false≢true is_g)
 asked_too false g b is_d is_g is_b = absurd (false≢true is_d)
 
-func_same : (p : Pass) (answers : List FeatureAnswer) (r : Record) (name : Result (List ℕ) Refusal) → ((f : BtfFeature) → IsAmong f (func_asks p r name) → grants answers f ≡ has p f) → is_read name ≡ None
+func_same : (p : Pass) (answers : List FeatureAnswer) (r : Record) (name : Result (List ℕ) Refusal) → ((f : BtfFeature) → IsAmong f (func_asks p r name) → grants answers f ≡ has p f) → name_is_read name ≡ None
     → (if grants answers features.Func then known_func (with_answers p answers) r name else typedef r.name r.third) ≡ (if has p features.Func then known_func p r name else typedef r.name r.third)
 func_same p answers r (Ok name) agree read =
     let c : Bool = has p features.Func && is_global r && not (is_builtin name) in
@@ -288,8 +288,8 @@ abbrev section_made : Pass → List Record → ℕ → Bool → Bool → ℕ →
 section_made p lower id granted filled name at =
     let r : Record = record_at p.table id in
     let size : ℕ = unwrap_or (section_size p id) 0 in
-    let filling : ℕ → Record = λ n. data_sec name n 1 (record { type = at; offset = 0; size = n } ∷ []) in
-    if granted then (if r.third == 0 then (if filled then filling (max size 1) else data_sec name size (vlen r.info) (map (placed p) (entries r.tail))) else (if filled then filling r.third else record r { name = name }))
+    let filling : ℕ → Record = λ n. made_data_sec name n 1 (record { type = at; offset = 0; size = n } ∷ []) in
+    if granted then (if r.third == 0 then (if filled then filling (max size 1) else made_data_sec name size (vlen r.info) (map (placed p) (entries r.tail))) else (if filled then filling r.third else record r { name = name }))
     else struct name (vlen r.info) (vlen r.info) (entry_members p lower id (entries r.tail))
 
 section_same : (p : Pass) (answers : List FeatureAnswer) (lower : List Record) (id : ℕ) → kind_at p.table id ≡ Some kinds.DataSec → Same p answers id
@@ -333,8 +333,8 @@ becomes_same p answers lower id k kind same = refl
 
 -- ---- all ids below
 
-read_of_ruled : (p : Pass) (id : ℕ) → fault p id ≡ None → kind_at p.table id ≡ Some kinds.Func → is_read (name_of p id) ≡ None
-read_of_ruled p id ruled kind = passed_head (is_read (name_of p id)) [] (subst (λ (k : Option Kind). first_fault (checks_by p id k (record_at p.table id)) ≡ None) kind ruled)
+read_of_ruled : (p : Pass) (id : ℕ) → fault p id ≡ None → kind_at p.table id ≡ Some kinds.Func → name_is_read (name_of p id) ≡ None
+read_of_ruled p id ruled kind = passed_head (name_is_read (name_of p id)) [] (subst (λ (k : Option Kind). first_fault (checks_by p id k (record_at p.table id)) ≡ None) kind ruled)
 
 offset_same : (p : Pass) (answers : List FeatureAnswer) (id : ℕ) → IsSameBelow p answers id → offset_at (with_answers p answers) id ≡ offset_at p id
 offset_same p answers id below = ap (λ (ts : List (List ℕ)). length p.table.strings + texts_len ts) below.texts

@@ -10,15 +10,15 @@ use Rattle.btf_rewrite_model.specs.Checks.{Check, has_room, have_room, fits, rec
 use Rattle.btf_rewrite_model.specs.Pass.{texts_len, param_text, param_texts}
 use Rattle.btf_rewrite_model.specs.Rule.{named_params}
 use Rattle.btf_rewrite_model.specs.Fault.{all_fit}
-use Rattle.btf_rewrite_model.specs.Rewritten.{ended}
+use Rattle.btf_rewrite_model.specs.Rewritten.{with_zero_byte}
 
 -- ---- texts
 
 -- the bytes of texts with their zero bytes
-pub ended_len : (ts : List (List ℕ)) → length (flat_map ended ts) ≡ texts_len ts
+pub ended_len : (ts : List (List ℕ)) → length (flat_map with_zero_byte ts) ≡ texts_len ts
 ended_len [] = refl
 ended_len (t ∷ ts) =
-    omega (arith, length-append (ended t) (flat_map ended ts), length-append t (0 ∷ []), ended_len ts, sum_by-cons (λ (text : List ℕ). length text + 1) t ts)
+    omega (arith, length-append (with_zero_byte t) (flat_map with_zero_byte ts), length-append t (0 ∷ []), ended_len ts, sum_by-cons (λ (text : List ℕ). length text + 1) t ts)
 
 pub texts_len_append : (ts us : List (List ℕ)) → texts_len (ts ++ us) ≡ texts_len ts + texts_len us
 texts_len_append ts us = sum_by-append (λ (text : List ℕ). length text + 1) ts us

@@ -8,7 +8,7 @@ use Rattle.std.proofs.lemmas.Slice.Eq.{bytes_eq-Decides}
 use Rattle.btf_rewrite_model.specs.declared.feature.BtfFeature.{BtfFeature}
 use Rattle.btf_rewrite_model.specs.declared.feature.BtfFeature.TheVariants as features
 use Rattle.btf_rewrite_model.specs.declared.feature.FeatureAnswer.{FeatureAnswer}
-use Rattle.btf_rewrite_model.specs.Feature.{grants, same_feature, number}
+use Rattle.btf_rewrite_model.specs.Feature.{grants, same_feature, feature_number}
 use Rattle.btf_rewrite_model.specs.FeatureSet.{feature_name, answers_of}
 use Rattle.btf_rewrite_model.specs.Passing.{features_of}
 use Rattle.btf_rewrite_model.proofs.Kernels.{AgreeWith}
@@ -24,7 +24,7 @@ numbered n =
     else (if n == 5 then features.DeclTag
     else (if n == 6 then features.TypeTag else features.Enum64))))))
 
-numbered_is : (f : BtfFeature) → numbered (number f) ≡ f
+numbered_is : (f : BtfFeature) → numbered (feature_number f) ≡ f
 numbered_is features.Func = refl
 numbered_is features.FuncGlobal = refl
 numbered_is features.DataSec = refl
@@ -35,7 +35,7 @@ numbered_is features.TypeTag = refl
 numbered_is features.Enum64 = refl
 
 pub same_is : (f g : BtfFeature) → same_feature f g ≡ true → f ≡ g
-same_is f g is = sym (numbered_is f) ∙ ap numbered (eqb-true (number f) (number g) is) ∙ numbered_is g
+same_is f g is = sym (numbered_is f) ∙ ap numbered (eqb-true (feature_number f) (feature_number g) is) ∙ numbered_is g
 
 -- the feature of a name
 abbrev pub named : List ℕ → BtfFeature
@@ -67,7 +67,7 @@ names_alike f g =
           elim (bytes_eq (feature_name f) (feature_name g)) as (λ (b : Bool). bytes_eq (feature_name f) (feature_name g) ≡ b → b ≡ false) [
             | true ↦ λ is.
                 let one : f ≡ g = sym (named_is f) ∙ ap named ((bytes_eq-Decides (feature_name f) (feature_name g)).0 is) ∙ named_is g in
-                absurd (false≢true (sym differ ∙ ap (same_feature f) (sym one) ∙ eq-eqb (number f) (number f) refl))
+                absurd (false≢true (sym differ ∙ ap (same_feature f) (sym one) ∙ eq-eqb (feature_number f) (feature_number f) refl))
             | false ↦ λ is. refl
           ] refl
     ] refl
@@ -99,4 +99,4 @@ kernel_agrees has (a ∷ answers) are f among =
     later : (g : BtfFeature) → same_feature g f ≡ false → (same_feature f g || list_any (same_feature f) (features_of answers)) ≡ true → list_any (same_feature f) (features_of answers) ≡ true
     later g other either =
         elim (same_feature f g) as (λ (b : Bool). same_feature f g ≡ b → (b || list_any (same_feature f) (features_of answers)) ≡ true → list_any (same_feature f) (features_of answers) ≡ true)
-        [ true ↦ λ is _. absurd (false≢true (sym other ∙ ap (λ (h : BtfFeature). same_feature g h) (same_is f g is) ∙ eq-eqb (number g) (number g) refl)) | false ↦ λ is rest. rest ] refl either
+        [ true ↦ λ is _. absurd (false≢true (sym other ∙ ap (λ (h : BtfFeature). same_feature g h) (same_is f g is) ∙ eq-eqb (feature_number g) (feature_number g) refl)) | false ↦ λ is rest. rest ] refl either

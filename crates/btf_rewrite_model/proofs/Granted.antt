@@ -9,11 +9,11 @@ use Rattle.btf_model.specs.Record.{Kind, Record, kind_of, kind_number, kind_flag
 use Rattle.btf_model.specs.Info.{with_vlen, with_flag}
 use Rattle.btf_model.specs.Refusal.{Refusal, UnknownSectionSize}
 use Rattle.btf_rewrite_model.specs.declared.feature.BtfFeature.TheVariants as features
-use Rattle.btf_rewrite_model.specs.Feature.{number, same_feature, grants, needs, needs_by, is_sized_and_empty, fills_sized, is_global, is_signed, has_no_entries}
+use Rattle.btf_rewrite_model.specs.Feature.{feature_number, same_feature, grants, needs, needs_by, is_sized_and_empty, fills_sized, is_global, is_signed, has_no_entries}
 use Rattle.btf_rewrite_model.specs.declared.feature.BtfFeature.{BtfFeature}
 use Rattle.btf_rewrite_model.specs.declared.feature.FeatureAnswer.{FeatureAnswer}
-use Rattle.btf_rewrite_model.specs.Made.{Entry, entries, record_at, kind_at, struct, union, enum, data_sec, with_linkage, unsigned}
-use Rattle.btf_rewrite_model.specs.Checks.{Check, first_fault, is_read}
+use Rattle.btf_rewrite_model.specs.Made.{Entry, entries, record_at, kind_at, struct, union, enum, made_data_sec, with_linkage, unsigned}
+use Rattle.btf_rewrite_model.specs.Checks.{Check, first_fault, name_is_read}
 use Rattle.btf_rewrite_model.specs.Pass.{Pass, has, name_of, name_checks, is_builtin, gets_filler, section_size, is_unsized, is_zero_or, fills_sized_one, fills_unsized}
 use Rattle.btf_rewrite_model.specs.Rule.{becomes, becomes_by, ruled_below, known_func, completed, sized, filled, new_name, placed}
 use Rattle.btf_rewrite_model.specs.Fault.{fault, checks_by, is_sized, completing_checks, filling_checks}
@@ -23,21 +23,21 @@ use Rattle.btf_rewrite_model.specs.RewriteLaws.{IsAmong}
 
 pub kind_made : (n count : ℕ) (k : Kind) → n < 2 ^ 5 → count < 2 ^ 16 → slice_get (take 20 kinds.kinds) n ≡ Some k → kind_of (n * 2 ^ 24 + count) ≡ Some k
 kind_made n count k small few is =
-    let number : kind_number (n * 2 ^ 24 + count) ≡ n = omega arith in
-    ap (λ (m : ℕ). slice_get (take 20 kinds.kinds) m) number ∙ is
+    let number_is : kind_number (n * 2 ^ 24 + count) ≡ n = omega arith in
+    ap (λ (m : ℕ). slice_get (take 20 kinds.kinds) m) number_is ∙ is
 
 pub vlen_small : (info : ℕ) → vlen info < 2 ^ 16
 vlen_small info = omega arith
 
 -- ---- features
 
-grants_alike : (answers : List FeatureAnswer) (f g : BtfFeature) → number f ≡ number g → grants answers f ≡ grants answers g
+grants_alike : (answers : List FeatureAnswer) (f g : BtfFeature) → feature_number f ≡ feature_number g → grants answers f ≡ grants answers g
 grants_alike [] f g same = refl
-grants_alike (answer ∷ answers) f g same = ap (λ (n : ℕ). if number answer.feature == n then answer.granted else grants answers f) same ∙ ap (λ (b : Bool). if same_feature answer.feature g then answer.granted else b) (grants_alike answers f g same)
+grants_alike (answer ∷ answers) f g same = ap (λ (n : ℕ). if feature_number answer.feature == n then answer.granted else grants answers f) same ∙ ap (λ (b : Bool). if same_feature answer.feature g then answer.granted else b) (grants_alike answers f g same)
 
 -- the only feature that is needed is granted
-alone : (f g : BtfFeature) → IsAmong f (g ∷ []) → number f ≡ number g
-alone f g is = elim (or_cases (same_feature f g) false is) as (λ c. number f ≡ number g) [ inl same ↦ eqb-true (number f) (number g) same | inr never ↦ absurd (false≢true never) ]
+alone : (f g : BtfFeature) → IsAmong f (g ∷ []) → feature_number f ≡ feature_number g
+alone f g is = elim (or_cases (same_feature f g) false is) as (λ c. feature_number f ≡ feature_number g) [ inl same ↦ eqb-true (feature_number f) (feature_number g) same | inr never ↦ absurd (false≢true never) ]
 
 pub one_granted : (p : Pass) (f g : BtfFeature) → has p g ≡ true → IsAmong f (g ∷ []) → has p f ≡ true
 one_granted p f g granted is = grants_alike p.answers f g (alone f g is) ∙ granted
@@ -46,7 +46,7 @@ one_granted p f g granted is = grants_alike p.answers f g (alone f g is) ∙ gra
 two_granted : (p : Pass) (f g h : BtfFeature) → has p g ≡ true → has p h ≡ true → IsAmong f (g ∷ h ∷ []) → has p f ≡ true
 two_granted p f g h granted granted_too is =
     elim (or_cases (same_feature f g) (same_feature f h || false) is) as (λ c. has p f ≡ true)
-    [ inl same ↦ grants_alike p.answers f g (eqb-true (number f) (number g) same) ∙ granted | inr other ↦ one_granted p f h granted_too other ]
+    [ inl same ↦ grants_alike p.answers f g (eqb-true (feature_number f) (feature_number g) same) ∙ granted | inr other ↦ one_granted p f h granted_too other ]
 
 -- ---- the kinds
 
@@ -113,7 +113,7 @@ global_granted p f true false false granted is_h stays is = absurd (false≢true
 global_granted p f false b h granted is_h stays is = one_granted p f features.Func granted is
 
 known_granted : (p : Pass) (is_exempt : Bool) (f : BtfFeature) (r : Record) (name : Result (List ℕ) Refusal) → kind_of r.info ≡ Some kinds.Func → has p features.Func ≡ true
-    → first_fault (is_read name ∷ []) ≡ None → Needs is_exempt f (known_func p r name) → has p f ≡ true
+    → first_fault (name_is_read name ∷ []) ≡ None → Needs is_exempt f (known_func p r name) → has p f ≡ true
 known_granted p is_exempt f r (Ok name) kind granted read is =
     either (Needs is_exempt f) (has p f ≡ true) (is_global r && (is_builtin name || not (has p features.FuncGlobal))) (with_linkage 0 r) r
     (λ cleared n. one_granted p f features.Func granted (static_needs is_exempt f r kind n))
@@ -209,7 +209,7 @@ passed_right (None ∷ before) after passed = passed_right before after passed
 passed_right (Some refusal ∷ before) after passed = absurd (none-some refusal (sym passed))
 
 -- a section whose name is read and whose size test passes has a known size
-size_known : (size : Option ℕ) (name : Result (List ℕ) Refusal) → is_read name ≡ None → is_sized size name ≡ None → (n : ℕ) × (size ≡ Some n)
+size_known : (size : Option ℕ) (name : Result (List ℕ) Refusal) → name_is_read name ≡ None → is_sized size name ≡ None → (n : ℕ) × (size ≡ Some n)
 size_known (Some n) name read sized = (n, refl)
 size_known None (Ok name) read sized = absurd (none-some (UnknownSectionSize name) (sym sized))
 size_known None (Err refusal) read sized = absurd (none-some refusal (sym read))
@@ -235,11 +235,11 @@ filled_granted p is_exempt f id size r granted is =
 -- a completed DATASEC has the filler as its entry, or entries of its own, or none if this was granted
 
 laid_granted : (p : Pass) (is_exempt : Bool) (f : BtfFeature) (name size count : ℕ) (es : List Entry) → has p features.DataSec ≡ true → count < 2 ^ 16
-    → ((count == 0) && not (has p features.DataSecZero)) ≡ false → Needs is_exempt f (data_sec name size count es) → has p f ≡ true
+    → ((count == 0) && not (has p features.DataSecZero)) ≡ false → Needs is_exempt f (made_data_sec name size count es) → has p f ≡ true
 laid_granted p is_exempt f name size count es granted small known is =
     zero_granted p f (count == 0) is_exempt (has p features.DataSecZero) granted refl known
     (subst (λ (n : ℕ). IsAmong f (if (n == 0) && not is_exempt then features.DataSec ∷ features.DataSecZero ∷ [] else features.DataSec ∷ [])) (made_vlen count small)
-    (of_kind is_exempt f (data_sec name size count es) (Some kinds.DataSec) (kind_made 15 count kinds.DataSec (omega arith) small refl) is))
+    (of_kind is_exempt f (made_data_sec name size count es) (Some kinds.DataSec) (kind_made 15 count kinds.DataSec (omega arith) small refl) is))
 
 completed_granted : (p : Pass) (id : ℕ) (is_exempt : Bool) (f : BtfFeature) (size : ℕ) → kind_at p.table id ≡ Some kinds.DataSec → has p features.DataSec ≡ true → ((record_at p.table id).third == 0) ≡ true
     → (n : ℕ) × (section_size p id ≡ Some n) → Needs is_exempt f (completed p id size (record_at p.table id)) → has p f ≡ true

@@ -3,7 +3,7 @@ use Rattle.std.proofs.Common.{◌≡◌, Bool, true, false, not, cond, List, [],
 use Rattle.std.specs.Prelude.{if◌then◌else◌}
 use Rattle.std.specs.List.{list_any, filter}
 use Rattle.std.proofs.lemmas.Bool.{false≢true, or_parts, or_from, eqb-true, eq-eqb, true≢false, false_from_ne_true}
-use Rattle.btf_rewrite_model.specs.Feature.{number, same_feature, grants}
+use Rattle.btf_rewrite_model.specs.Feature.{feature_number, same_feature, grants}
 use Rattle.btf_rewrite_model.specs.declared.feature.BtfFeature.{BtfFeature}
 use Rattle.btf_rewrite_model.specs.declared.feature.FeatureAnswer.{FeatureAnswer}
 use Rattle.btf_rewrite_model.specs.Pass.{each_once}
@@ -42,12 +42,12 @@ each_is_once (f ∷ fs) = (left_out f (each_once fs), filtered_once (λ g. not (
 -- ---- answers
 
 -- no answer is for this feature if none is for an equal feature
-no_answer : (f g : BtfFeature) (answers : List FeatureAnswer) → number f ≡ number g → list_any (same_feature f) (map (λ (answer : FeatureAnswer). answer.feature) answers) ≡ false
+no_answer : (f g : BtfFeature) (answers : List FeatureAnswer) → feature_number f ≡ feature_number g → list_any (same_feature f) (map (λ (answer : FeatureAnswer). answer.feature) answers) ≡ false
     → filter (λ (answer : FeatureAnswer). same_feature answer.feature g) answers ≡ []
 no_answer f g [] same absent = refl
 no_answer f g (answer ∷ answers) same absent =
     let parts = or_parts (same_feature f answer.feature) (list_any (same_feature f) (map (λ (a : FeatureAnswer). a.feature) answers)) absent in
-    let differs : same_feature answer.feature g ≡ false = false_from_ne_true (same_feature answer.feature g) (λ e. true≢false (sym (eq-eqb (number f) (number answer.feature) (same ∙ sym (eqb-true (number answer.feature) (number g) e))) ∙ parts.0)) in
+    let differs : same_feature answer.feature g ≡ false = false_from_ne_true (same_feature answer.feature g) (λ e. true≢false (sym (eq-eqb (feature_number f) (feature_number answer.feature) (same ∙ sym (eqb-true (feature_number answer.feature) (feature_number g) e))) ∙ parts.0)) in
     ap (λ (b : Bool). cond b (answer ∷ filter (λ (a : FeatureAnswer). same_feature a.feature g) answers) (filter (λ (a : FeatureAnswer). same_feature a.feature g) answers)) differs ∙ no_answer f g answers same parts.1
 
 pub granted_once : (answers : List FeatureAnswer) (f : BtfFeature) → AreOnce (map (λ (answer : FeatureAnswer). answer.feature) answers) → grants answers f ≡ true → IsGrantedOnce answers f
@@ -55,6 +55,6 @@ granted_once [] f once granted = absurd (false≢true granted)
 granted_once (answer ∷ answers) f once granted =
     elim (same_feature answer.feature f) as (λ (b : Bool). b ≡ same_feature answer.feature f → (if b then answer.granted else grants answers f) ≡ true
     → map (λ (a : FeatureAnswer). a.granted) (cond b (answer ∷ filter (λ (a : FeatureAnswer). same_feature a.feature f) answers) (filter (λ (a : FeatureAnswer). same_feature a.feature f) answers)) ≡ true ∷ []) [
-      | true ↦ λ is granted_first. ap (λ (rest : List FeatureAnswer). answer.granted ∷ map (λ (a : FeatureAnswer). a.granted) rest) (no_answer answer.feature f answers (eqb-true (number answer.feature) (number f) (sym is)) once.0) ∙ ap (λ (b : Bool). b ∷ []) granted_first
+      | true ↦ λ is granted_first. ap (λ (rest : List FeatureAnswer). answer.granted ∷ map (λ (a : FeatureAnswer). a.granted) rest) (no_answer answer.feature f answers (eqb-true (feature_number answer.feature) (feature_number f) (sym is)) once.0) ∙ ap (λ (b : Bool). b ∷ []) granted_first
       | false ↦ λ is granted_later. granted_once answers f once.1 granted_later
     ] refl granted

@@ -15,11 +15,11 @@ use Rattle.btf_rewrite_model.specs.Feature.{grants, same_feature}
 use Rattle.btf_rewrite_model.specs.declared.feature.BtfFeature.{BtfFeature}
 use Rattle.btf_rewrite_model.specs.declared.feature.FeatureAnswer.{FeatureAnswer}
 use Rattle.btf_rewrite_model.specs.declared.feature.FillPolicy.{FillPolicy}
-use Rattle.btf_rewrite_model.specs.Made.{record_at, kind_at, table_ids, fallback_of}
+use Rattle.btf_rewrite_model.specs.Made.{record_at, kind_at, table_ids, enum64_fallback}
 use Rattle.btf_rewrite_model.specs.declared.ksyms_ids.KsymsIds.{KsymsIds}
 use Rattle.btf_rewrite_model.specs.Pass.{Pass, Layout, added_below, asks_below, each_once, Asked}
 use Rattle.btf_rewrite_model.specs.Rule.{ruled_below, falls_back, falls_back_by}
-use Rattle.btf_rewrite_model.specs.Rewritten.{step_fault, pass_of, old_count, ended, rewritten, AreRuled, Rewritten, FaultsAt, IsRefused}
+use Rattle.btf_rewrite_model.specs.Rewritten.{step_fault, pass_of, old_count, with_zero_byte, rewritten, AreRuled, Rewritten, FaultsAt, IsRefused}
 use Rattle.btf_rewrite_model.specs.RewriteLaws.{IsAmong, with_answers, Agree, IsSameBelow}
 use Rattle.btf_rewrite_model.proofs.Agreeing.{AgreeAt, agree_at, agree_of, same_below, same_refused}
 use Rattle.btf_rewrite_model.specs.Passing.{features_of}
@@ -51,7 +51,7 @@ ruled_so p all end agree ruled id lt =
 falls_back_so : (p : Pass) (all : List FeatureAnswer) (id : ℕ) (k : Option Kind) (old : Option Fallback) → AgreeAt p all id → kind_at p.table id ≡ k
     → falls_back_by (with_answers p all) k (record_at p.table id) old ≡ falls_back_by p k (record_at p.table id) old
 falls_back_so p all id (Some kinds.Enum64) old agree kind =
-    ap (λ b. if b then old else Some (fallback_of (record_at p.table id))) (agree_of p all id (Some kinds.Enum64) features.Enum64 agree kind refl)
+    ap (λ b. if b then old else Some (enum64_fallback (record_at p.table id))) (agree_of p all id (Some kinds.Enum64) features.Enum64 agree kind refl)
 falls_back_so p all id k old agree kind = refl
 
 map_within : (f g : ℕ → Option Fallback) (from count : ℕ) → ((id : ℕ) → id < from + count → f id ≡ g id) → map f (range_with_len from count) ≡ map g (range_with_len from count)
@@ -69,7 +69,7 @@ rewritten_so p all agree ruled =
     let same : IsSameBelow p all n = same_below p all n agree ruled in
     let fallbacks : map (falls_back q) (table_ids p.table) ≡ map (falls_back p) (table_ids p.table) =
     map_within (falls_back q) (falls_back p) 0 n (λ id lt. falls_back_so p all id (kind_at p.table id) _ (agree_at p all n id (omega (arith, lt)) agree) refl) in
-    ap (λ (ts : List (List ℕ)). record (rewritten q) { strings = p.table.strings ++ flat_map ended ts }) same.texts
+    ap (λ (ts : List (List ℕ)). record (rewritten q) { strings = p.table.strings ++ flat_map with_zero_byte ts }) same.texts
     ∙ ap (λ (rs : List Record). record (rewritten p) { records = rs ++ added_below q n; fallbacks = map (falls_back q) (table_ids p.table) ++ no_fallbacks (added_below q n) }) same.ruled
     ∙ ap (λ (rs : List Record). record (rewritten p) { records = ruled_below p n ++ rs; fallbacks = map (falls_back q) (table_ids p.table) ++ no_fallbacks rs }) same.added
     ∙ ap (λ (fs : List (Option Fallback)). record (rewritten p) { fallbacks = fs ++ no_fallbacks (added_below p n) }) fallbacks

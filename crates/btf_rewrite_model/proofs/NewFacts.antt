@@ -16,12 +16,12 @@ use Rattle.btf_model.specs.Refusal.{Refusal}
 use Rattle.btf_model.specs.Text.{is_zero, bytes_at, text_at, lossy}
 use Rattle.btf_rewrite_model.specs.declared.feature.BtfFeature.TheVariants as features
 use Rattle.btf_rewrite_model.specs.Feature.{is_global, is_signed}
-use Rattle.btf_rewrite_model.specs.Made.{record_at, kind_at, entries, variants, const, typedef, wants_name, byte_int, struct, union, enum, data_sec, with_linkage, unsigned}
-use Rattle.btf_rewrite_model.specs.Checks.{first_fault, is_read}
-use Rattle.btf_rewrite_model.specs.Pass.{Pass, has, name_of, name_checks, replaced, slash, dot, section_name, renaming, gets_filler, makes_filler, filler_type_text, filler_text, section_size, is_builtin, texts, texts_by, texts_below, offset_at, param_text}
+use Rattle.btf_rewrite_model.specs.Made.{record_at, kind_at, entries, variants, const, typedef, wants_name, byte_int, struct, union, enum, made_data_sec, with_linkage, unsigned}
+use Rattle.btf_rewrite_model.specs.Checks.{first_fault, name_is_read}
+use Rattle.btf_rewrite_model.specs.Pass.{Pass, has, name_of, name_checks, replaced, slash, dot, new_section_name, renaming, gets_filler, makes_filler, filler_type_text, filler_text, section_size, is_builtin, texts, texts_by, texts_below, offset_at, param_text}
 use Rattle.btf_rewrite_model.specs.Rule.{becomes, becomes_by, ruled_below, known_func, new_name, name_or, completed, sized, filled, named_params, placed, entry_members, variant_members, member_type_id}
 use Rattle.btf_rewrite_model.specs.Fault.{fault, checks_by}
-use Rattle.btf_rewrite_model.specs.Rewritten.{ended}
+use Rattle.btf_rewrite_model.specs.Rewritten.{with_zero_byte}
 use Rattle.btf_rewrite_model.proofs.Granted.{kind_made, vlen_small, passed_head, passed_left, static_vlen, static_number, unsigned_number}
 use Rattle.btf_model.proofs.Texts.{text_stays, has_bytes, some_mapped}
 use Rattle.btf_rewrite_model.proofs.Appending.{ended_len}
@@ -67,7 +67,7 @@ none_wants k offset (name ∷ type ∷ words) some =
 
 -- ---- functions
 
-func_fact : (p : Pass) (more : List ℕ) (r : Record) (name : Result (List ℕ) Refusal) → kind_of r.info ≡ Some kinds.Func → is_read name ≡ None → text_at p.table.strings r.name ≡ name → Fact p (p.table.strings ++ more) (known_func p r name)
+func_fact : (p : Pass) (more : List ℕ) (r : Record) (name : Result (List ℕ) Refusal) → kind_of r.info ≡ Some kinds.Func → name_is_read name ≡ None → text_at p.table.strings r.name ≡ name → Fact p (p.table.strings ++ more) (known_func p r name)
 func_fact p more r (Err refusal) kind read is = absurd (none-some refusal (sym read))
 func_fact p more r (Ok name) kind read is =
     let stays : text_at (p.table.strings ++ more) r.name ≡ Ok name = text_stays p.table.strings more r.name name is in
@@ -112,16 +112,16 @@ texts_split p (suc n) id lt =
 
 -- an appended text is at its offset
 module _ (p : Pass) (n id : ℕ) (lt : id < n) (bytes : List ℕ) (fillers : List (List ℕ)) (none : NoZero bytes) (own : texts p id ≡ replaced slash dot (lossy bytes) ∷ fillers) where
-  pub appended_reads : text_at (p.table.strings ++ flat_map ended (texts_below p n)) (offset_at p id) ≡ Ok (replaced slash dot (lossy bytes))
+  pub appended_reads : text_at (p.table.strings ++ flat_map with_zero_byte (texts_below p n)) (offset_at p id) ≡ Ok (replaced slash dot (lossy bytes))
   appended_reads =
       let t : List ℕ = replaced slash dot (lossy bytes) in
       let split : (later : List (List ℕ)) × (texts_below p n ≡ texts_below p id ++ (texts p id ++ later)) = texts_split p n id lt in
-      let front : List ℕ = flat_map ended (texts_below p id) in
-      let behind : List ℕ = flat_map ended (fillers ++ split.0) in
-      let bytes_are : flat_map ended (texts_below p n) ≡ front ++ (ended t ++ behind) =
-      ap (flat_map ended) (split.1 ∙ ap (λ ts. texts_below p id ++ (ts ++ split.0)) own) ∙ flat_map-append ended (texts_below p id) (t ∷ (fillers ++ split.0)) in
-      let strings_are : p.table.strings ++ flat_map ended (texts_below p n) ≡ (p.table.strings ++ front) ++ t ++ 0 ∷ [] ++ behind =
-      ap (λ xs. p.table.strings ++ xs) bytes_are ∙ sym (append_assoc p.table.strings front (ended t ++ behind)) ∙ sym (append_assoc (p.table.strings ++ front) (ended t) behind)
+      let front : List ℕ = flat_map with_zero_byte (texts_below p id) in
+      let behind : List ℕ = flat_map with_zero_byte (fillers ++ split.0) in
+      let bytes_are : flat_map with_zero_byte (texts_below p n) ≡ front ++ (with_zero_byte t ++ behind) =
+      ap (flat_map with_zero_byte) (split.1 ∙ ap (λ ts. texts_below p id ++ (ts ++ split.0)) own) ∙ flat_map-append with_zero_byte (texts_below p id) (t ∷ (fillers ++ split.0)) in
+      let strings_are : p.table.strings ++ flat_map with_zero_byte (texts_below p n) ≡ (p.table.strings ++ front) ++ t ++ 0 ∷ [] ++ behind =
+      ap (λ xs. p.table.strings ++ xs) bytes_are ∙ sym (append_assoc p.table.strings front (with_zero_byte t ++ behind)) ∙ sym (append_assoc (p.table.strings ++ front) (with_zero_byte t) behind)
       ∙ ap (λ xs. xs ++ behind) (sym (append_assoc (p.table.strings ++ front) t (0 ∷ []))) in
       let offset : length (p.table.strings ++ front) ≡ offset_at p id = omega (arith, length-append p.table.strings front, ended_len (texts_below p id)) in
       ap (λ xs. text_at xs (offset_at p id)) strings_are
@@ -130,39 +130,39 @@ module _ (p : Pass) (n id : ℕ) (lt : id < n) (bytes : List ℕ) (fillers : Lis
 
 -- The new name of a section reads as a name without a slash.
 module _ (p : Pass) (n id : ℕ) (lt : id < n) (kind : kind_at p.table id ≡ Some kinds.DataSec) (granted : has p features.DataSec ≡ true) where
-  named_by : (name : Result (List ℕ) Refusal) → name_of p id ≡ name → is_read name ≡ None
-      → (text : List ℕ) × (text_at (p.table.strings ++ flat_map ended (texts_below p n)) (name_or (record_at p.table id).name (offset_at p id) (renaming p name)) ≡ Ok text) × (replaced slash dot text ≡ text)
+  named_by : (name : Result (List ℕ) Refusal) → name_of p id ≡ name → name_is_read name ≡ None
+      → (text : List ℕ) × (text_at (p.table.strings ++ flat_map with_zero_byte (texts_below p n)) (name_or (record_at p.table id).name (offset_at p id) (renaming p name)) ≡ Ok text) × (replaced slash dot text ≡ text)
   named_by (Err refusal) is read = absurd (none-some refusal (sym read))
   named_by (Ok name) is read =
       let r : Record = record_at p.table id in
-      let strings : List ℕ = p.table.strings ++ flat_map ended (texts_below p n) in
+      let strings : List ℕ = p.table.strings ++ flat_map with_zero_byte (texts_below p n) in
       let new : List ℕ = replaced slash dot name in
-      let section : section_name p name ≡ new = ap (λ (b : Bool). if b then new else replaced 0x2e 0x5f name) granted in
+      let section : new_section_name p name ≡ new = ap (λ (b : Bool). if b then new else replaced 0x2e 0x5f name) granted in
       let bytes = has_bytes r.name (bytes_at p.table.strings r.name) name is in
       let free : NoZero bytes.0 = no_zero_bytes p.table.strings r.name bytes.0 bytes.1 in
-      elim (bytes_eq (section_name p name) name) as (λ (b : Bool). bytes_eq (section_name p name) name ≡ b
-      → (text : List ℕ) × (text_at strings (name_or r.name (offset_at p id) (if b then [] else section_name p name ∷ [])) ≡ Ok text) × (replaced slash dot text ≡ text)) [
+      elim (bytes_eq (new_section_name p name) name) as (λ (b : Bool). bytes_eq (new_section_name p name) name ≡ b
+      → (text : List ℕ) × (text_at strings (name_or r.name (offset_at p id) (if b then [] else new_section_name p name ∷ [])) ≡ Ok text) × (replaced slash dot text ≡ text)) [
         | true ↦ λ same.
-            let stays : new ≡ name = sym section ∙ (bytes_eq-Decides (section_name p name) name).0 same in
-            (name, text_stays p.table.strings (flat_map ended (texts_below p n)) r.name name is, stays)
+            let stays : new ≡ name = sym section ∙ (bytes_eq-Decides (new_section_name p name) name).0 same in
+            (name, text_stays p.table.strings (flat_map with_zero_byte (texts_below p n)) r.name name is, stays)
         | false ↦ λ other.
             let own : texts p id ≡ replaced slash dot (lossy bytes.0) ∷ (if makes_filler p id then filler_type_text ∷ filler_text ∷ [] else []) =
             ap (λ (k : Option Kind). texts_by p id k r) kind ∙ ap (λ m. renaming p m ++ (if makes_filler p id then filler_type_text ∷ filler_text ∷ [] else [])) is
-            ∙ ap (λ (b : Bool). (if b then [] else section_name p name ∷ []) ++ (if makes_filler p id then filler_type_text ∷ filler_text ∷ [] else [])) other
+            ∙ ap (λ (b : Bool). (if b then [] else new_section_name p name ∷ []) ++ (if makes_filler p id then filler_type_text ∷ filler_text ∷ [] else [])) other
             ∙ ap (λ t. t ∷ (if makes_filler p id then filler_type_text ∷ filler_text ∷ [] else [])) (section ∙ ap (replaced slash dot) (sym bytes.2)) in
             let reads : text_at strings (offset_at p id) ≡ Ok new = appended_reads p n id lt bytes.0 _ free own ∙ ap (λ t. Ok (replaced slash dot t)) bytes.2 in
             (new, reads, replaced_twice slash dot name refl)
       ] refl
 
   pub name_fact : first_fault (checks_by p id (Some kinds.DataSec) (record_at p.table id)) ≡ None
-      → (text : List ℕ) × (text_at (p.table.strings ++ flat_map ended (texts_below p n)) (new_name p id (record_at p.table id)) ≡ Ok text) × (replaced slash dot text ≡ text)
-  name_fact passed = named_by (name_of p id) refl (passed_head (is_read (name_of p id)) _ (passed_left (name_checks p id) _ passed))
+      → (text : List ℕ) × (text_at (p.table.strings ++ flat_map with_zero_byte (texts_below p n)) (new_name p id (record_at p.table id)) ≡ Ok text) × (replaced slash dot text ≡ text)
+  name_fact passed = named_by (name_of p id) refl (passed_head (name_is_read (name_of p id)) _ (passed_left (name_checks p id) _ passed))
 
 -- ---- all kinds
 
 -- the strings after the pass
 abbrev pub after : Pass → ℕ → List ℕ
-after p n = p.table.strings ++ flat_map ended (texts_below p n)
+after p n = p.table.strings ++ flat_map with_zero_byte (texts_below p n)
 
 fact_by : (p : Pass) (lower : List Record) (n id : ℕ) (k : Option Kind) → id < n → 0 < length p.table.strings → kind_at p.table id ≡ k → first_fault (checks_by p id k (record_at p.table id)) ≡ None
     → Fact p (after p n) (becomes_by p lower id k (record_at p.table id))
@@ -184,7 +184,7 @@ fact_by p lower n id (Some kinds.Enum64) lt some kind passed =
     (λ _. of_kind p (after p n) (union (record_at p.table id).name (record_at p.table id).third (vlen (record_at p.table id).info) (variant_members (member_type_id p id) (variants (record_at p.table id).tail))) (Some kinds.Union) (kind_made 5 (vlen (record_at p.table id).info) kinds.Union (omega arith) (vlen_small (record_at p.table id).info) refl) tt)
 fact_by p lower n id (Some kinds.Func) lt some kind passed =
     one_of (Fact p (after p n)) (has p features.Func) (known_func p (record_at p.table id) (name_of p id)) (typedef (record_at p.table id).name (record_at p.table id).third)
-    (λ _. func_fact p (flat_map ended (texts_below p n)) (record_at p.table id) (name_of p id) kind (passed_head (is_read (name_of p id)) [] passed) refl) (λ _. of_kind p (after p n) (typedef (record_at p.table id).name (record_at p.table id).third) (Some kinds.Typedef) refl tt)
+    (λ _. func_fact p (flat_map with_zero_byte (texts_below p n)) (record_at p.table id) (name_of p id) kind (passed_head (name_is_read (name_of p id)) [] passed) refl) (λ _. of_kind p (after p n) (typedef (record_at p.table id).name (record_at p.table id).third) (Some kinds.Typedef) refl tt)
 fact_by p lower n id (Some kinds.FuncProto) lt some kind passed =
     one_of (Fact p (after p n)) (has p features.Func) (record (record_at p.table id) { tail = named_params 0 (offset_at p id) (record_at p.table id).tail }) (enum (record_at p.table id).name (vlen (record_at p.table id).info) (record_at p.table id).tail)
     (λ _. of_kind p (after p n) (record (record_at p.table id) { tail = named_params 0 (offset_at p id) (record_at p.table id).tail }) (Some kinds.FuncProto) kind (none_wants 0 (offset_at p id) (record_at p.table id).tail (omega (arith, some))))
@@ -198,9 +198,9 @@ fact_by p lower n id (Some kinds.DataSec) lt some kind passed =
     let with_filler : (size : ℕ) → Fact p strings (filled p id size r) = λ size. of_kind p strings (filled p id size r) (Some kinds.DataSec) (kind_made 15 1 kinds.DataSec (omega arith) (omega arith) refl) named in
     one_of (Fact p strings) (r.third == 0) (completed p id (unwrap_or (section_size p id) 0) r) (sized p id r)
     (λ _. one_of (Fact p strings) (gets_filler p id) (filled p id (max (unwrap_or (section_size p id) 0) 1) r)
-    (data_sec (new_name p id r) (unwrap_or (section_size p id) 0) (vlen r.info) (map (placed p) (entries r.tail)))
+    (made_data_sec (new_name p id r) (unwrap_or (section_size p id) 0) (vlen r.info) (map (placed p) (entries r.tail)))
     (λ _. with_filler (max (unwrap_or (section_size p id) 0) 1))
-    (λ _. of_kind p strings (data_sec (new_name p id r) (unwrap_or (section_size p id) 0) (vlen r.info) (map (placed p) (entries r.tail))) (Some kinds.DataSec) (kind_made 15 (vlen r.info) kinds.DataSec (omega arith) (vlen_small r.info) refl) named))
+    (λ _. of_kind p strings (made_data_sec (new_name p id r) (unwrap_or (section_size p id) 0) (vlen r.info) (map (placed p) (entries r.tail))) (Some kinds.DataSec) (kind_made 15 (vlen r.info) kinds.DataSec (omega arith) (vlen_small r.info) refl) named))
     (λ _. one_of (Fact p strings) (gets_filler p id) (filled p id r.third r) (record r { name = new_name p id r }) (λ _. with_filler r.third) (λ _. of_kind p strings (record r { name = new_name p id r }) (Some kinds.DataSec) kind named)))
     (λ _. of_kind p strings (struct (new_name p id r) (vlen r.info) (vlen r.info) (entry_members p lower id (entries r.tail))) (Some kinds.Struct) (kind_made 4 (vlen r.info) kinds.Struct (omega arith) (vlen_small r.info) refl) tt)
 fact_by p lower n id k lt some kind passed = of_kind p (after p n) (record_at p.table id) k kind tt

@@ -12,7 +12,7 @@ use Rattle.std.proofs.lemmas.List.Folds.{list_any-append}
 use Rattle.std.proofs.lemmas.List.Concat.{flat_map-append}
 use Rattle.std.proofs.lemmas.List.Sums.{sum_by-append}
 use Rattle.btf_rewrite_model.specs.declared.feature.BtfFeature.TheVariants as features
-use Rattle.btf_rewrite_model.specs.Feature.{is_sized_and_empty, fills_sized, number, same_feature, grants, has_no_entries, answer_to}
+use Rattle.btf_rewrite_model.specs.Feature.{is_sized_and_empty, fills_sized, feature_number, same_feature, grants, has_no_entries, answer_to}
 use Rattle.btf_rewrite_model.specs.declared.feature.BtfFeature.{BtfFeature}
 use Rattle.btf_rewrite_model.specs.declared.feature.FeatureAnswer.{FeatureAnswer}
 use Rattle.btf_rewrite_model.specs.declared.feature.FillPolicy.{FillPolicy}
@@ -26,9 +26,9 @@ use Rattle.btf_rewrite_model.specs.declared.ksyms_ids.KsymsIds.{KsymsIds}
 use Rattle.btf_rewrite_model.specs.Pass.{Pass, Layout, has, is_unsized, is_zero_or, section_size, texts_by, added_by, asks, asks_below, each_once, Asked, texts, texts_below, texts_len, added, added_below, gets_filler, growth_below, offset_at, free_id, type_len_at}
 use Rattle.btf_rewrite_model.specs.Rule.{becomes, ruled_below, falls_back, falls_back_by}
 use Rattle.btf_rewrite_model.specs.Fault.{fault, checks_by}
-use Rattle.btf_rewrite_model.specs.Rewritten.{AreRuled, Rewritten, IsRefused, pass_of, step_fault, old_count, rewritten, ended}
+use Rattle.btf_rewrite_model.specs.Rewritten.{AreRuled, Rewritten, IsRefused, pass_of, step_fault, old_count, rewritten, with_zero_byte}
 use Rattle.btf_rewrite_model.specs.RewriteLaws.{IsAmong, with_answers, Agree, IsSameBelow}
-use Rattle.btf_rewrite_model.specs.Passing.{features_of, AreAnswersTo, IsAt, HasMade, is_quiet}
+use Rattle.btf_rewrite_model.specs.Passing.{features_of, AreAnswersTo, IsPassAt, HasMade, is_quiet}
 use Rattle.btf_rewrite_model.proofs.Agreeing.{same_below, same_refused}
 
 -- ---- features, each once
@@ -36,10 +36,10 @@ use Rattle.btf_rewrite_model.proofs.Agreeing.{same_below, same_refused}
 same_sym : (f g : BtfFeature) → same_feature f g ≡ same_feature g f
 same_sym f g =
     elim (same_feature f g) as (λ (b : Bool). same_feature f g ≡ b → b ≡ same_feature g f) [
-      | true ↦ λ is. sym (eq-eqb (number g) (number f) (sym (eqb-true (number f) (number g) is)))
+      | true ↦ λ is. sym (eq-eqb (feature_number g) (feature_number f) (sym (eqb-true (feature_number f) (feature_number g) is)))
       | false ↦ λ is.
           elim (same_feature g f) as (λ (b : Bool). same_feature g f ≡ b → false ≡ b)
-          [ true ↦ λ back. absurd (true≢false (sym (eq-eqb (number f) (number g) (sym (eqb-true (number g) (number f) back))) ∙ is)) | false ↦ λ back. refl ] refl
+          [ true ↦ λ back. absurd (true≢false (sym (eq-eqb (feature_number f) (feature_number g) (sym (eqb-true (feature_number g) (feature_number f) back))) ∙ is)) | false ↦ λ back. refl ] refl
     ] refl
 
 abbrev pushed : Bool → List BtfFeature → BtfFeature → List BtfFeature
@@ -65,7 +65,7 @@ left_in f g [] other among = among
 left_in f g (h ∷ fs) other among =
     elim (same_feature g h) as (λ (b : Bool). same_feature g h ≡ b → list_any (same_feature f) (cond (not b) (h ∷ filter (λ k. not (same_feature g k)) fs) (filter (λ k. not (same_feature g k)) fs)) ≡ true) [
       | true ↦ λ is.
-          let same : same_feature f h ≡ false = sym (same_sym h f) ∙ ap (λ (n : ℕ). n == number f) (sym (eqb-true (number g) (number h) is)) ∙ other in
+          let same : same_feature f h ≡ false = sym (same_sym h f) ∙ ap (λ (n : ℕ). n == feature_number f) (sym (eqb-true (feature_number g) (feature_number h) is)) ∙ other in
           left_in f g fs other (ap (λ (b : Bool). b || list_any (same_feature f) fs) (sym same) ∙ among)
       | false ↦ λ is.
           elim (same_feature f h) as (λ (b : Bool). (b || list_any (same_feature f) fs) ≡ true → (b || list_any (same_feature f) (filter (λ k. not (same_feature g k)) fs)) ≡ true) [ true ↦ λ _. refl | false ↦ λ later. left_in f g fs other later ] among
@@ -90,7 +90,7 @@ grants_append (answer ∷ answers) more f among =
 
 -- the answer to a feature that was not answered
 pub grants_new : (answers : List FeatureAnswer) (f : BtfFeature) (granted : Bool) → list_any (same_feature f) (features_of answers) ≡ false → grants (answers ++ record { feature = f; granted = granted } ∷ []) f ≡ granted
-grants_new [] f granted absent = ap (λ (b : Bool). if b then granted else false) (eq-eqb (number f) (number f) refl)
+grants_new [] f granted absent = ap (λ (b : Bool). if b then granted else false) (eq-eqb (feature_number f) (feature_number f) refl)
 grants_new (answer ∷ answers) f granted absent =
     let parts = or_parts (same_feature f answer.feature) (list_any (same_feature f) (features_of answers)) absent in
     ap (λ (b : Bool). if b then answer.granted else grants (answers ++ record { feature = f; granted = granted } ∷ []) f) (same_sym answer.feature f ∙ parts.0) ∙ grants_new answers f granted parts.1
@@ -196,7 +196,7 @@ pub further_agree : (p : Pass) (id : ℕ) (more : List FeatureAnswer) → AreAns
 further_agree p id more asked f among = grants_append p.answers more f (ap (list_any (same_feature f)) asked ∙ among_each f (asks_below p id) among)
 
 -- so they change nothing below
-pub further_same : (p : Pass) (id : ℕ) (more : List FeatureAnswer) → IsAt p id → IsSameBelow p (p.answers ++ more) id
+pub further_same : (p : Pass) (id : ℕ) (more : List FeatureAnswer) → IsPassAt p id → IsSameBelow p (p.answers ++ more) id
 further_same p id more at = same_below p (p.answers ++ more) id (further_agree p id more at.asked) at.ruled
 
 among_up_to : (p : Pass) (id j : ℕ) (f : BtfFeature) → j < id → IsAmong f (asks_below p (suc j)) → IsAmong f (asks_below p id)
@@ -215,17 +215,17 @@ among_up_to p (suc id) j f less among =
     from_left false b is = absurd (false≢true is)
 
 -- none of the ids below is refused under further answers
-pub further_ruled : (p : Pass) (id : ℕ) (more : List FeatureAnswer) → IsAt p id → AreRuled (with_answers p (p.answers ++ more)) id
+pub further_ruled : (p : Pass) (id : ℕ) (more : List FeatureAnswer) → IsPassAt p id → AreRuled (with_answers p (p.answers ++ more)) id
 further_ruled p id more at j less =
     same_refused p (p.answers ++ more) j (λ f among. further_agree p id more at.asked f (among_up_to p id j f less among)) (λ k below. at.ruled k (omega (arith, below, less))) ∙ at.ruled j less
 
 -- the answers to what this id and lower ids ask for
-pub asked_to : (p : Pass) (id : ℕ) (more : List FeatureAnswer) → IsAt p id → AreAnswersTo (asks_below p id ++ asks (with_answers p (p.answers ++ more)) id) (p.answers ++ more) → AreAnswersTo (asks_below (with_answers p (p.answers ++ more)) (suc id)) (p.answers ++ more)
+pub asked_to : (p : Pass) (id : ℕ) (more : List FeatureAnswer) → IsPassAt p id → AreAnswersTo (asks_below p id ++ asks (with_answers p (p.answers ++ more)) id) (p.answers ++ more) → AreAnswersTo (asks_below (with_answers p (p.answers ++ more)) (suc id)) (p.answers ++ more)
 asked_to p id more at asked = asked ∙ ap (λ (fs : List BtfFeature). each_once (fs ++ asks (with_answers p (p.answers ++ more)) id)) (sym (further_same p id more at).asks)
 
 -- The pass completes one more id: what it asks for is answered after the others, and it is not refused.
-pub goes_on : (p : Pass) (id : ℕ) (more : List FeatureAnswer) → IsAt p id → AreAnswersTo (asks_below p id ++ asks (with_answers p (p.answers ++ more)) id) (p.answers ++ more) → fault (with_answers p (p.answers ++ more)) id ≡ None
-    → IsAt (with_answers p (p.answers ++ more)) (suc id)
+pub goes_on : (p : Pass) (id : ℕ) (more : List FeatureAnswer) → IsPassAt p id → AreAnswersTo (asks_below p id ++ asks (with_answers p (p.answers ++ more)) id) (p.answers ++ more) → fault (with_answers p (p.answers ++ more)) id ≡ None
+    → IsPassAt (with_answers p (p.answers ++ more)) (suc id)
 goes_on p id more at asked passed =
     let q : Pass = with_answers p (p.answers ++ more) in
     record {
@@ -250,7 +250,7 @@ pub record Grows (p : Pass) (more : List FeatureAnswer) (id : ℕ) : Type 0 wher
   pub free : free_id (with_answers p (p.answers ++ more)) id ≡ free_id p id
   pub type_len : type_len_at (with_answers p (p.answers ++ more)) id ≡ type_len_at p id
 
-pub grows : (p : Pass) (more : List FeatureAnswer) (id : ℕ) → IsAt p id → Grows p more id
+pub grows : (p : Pass) (more : List FeatureAnswer) (id : ℕ) → IsPassAt p id → Grows p more id
 grows p more id at =
     let q : Pass = with_answers p (p.answers ++ more) in
     let same : IsSameBelow p (p.answers ++ more) id = further_same p id more at in
@@ -267,7 +267,7 @@ grows p more id at =
 -- ---- the end
 
 -- A pass that has completed all ids is a rewrite, and the answers are to what it asks for.
-pub passes : (policy : FillPolicy) (old : Table) (ids : Option KsymsIds) (layout : Layout) (answers : List FeatureAnswer) → step_fault old ids ≡ None → IsAt (pass_of policy old ids layout answers) (old_count (pass_of policy old ids layout answers))
+pub passes : (policy : FillPolicy) (old : Table) (ids : Option KsymsIds) (layout : Layout) (answers : List FeatureAnswer) → step_fault old ids ≡ None → IsPassAt (pass_of policy old ids layout answers) (old_count (pass_of policy old ids layout answers))
     → Rewritten policy old ids layout answers (rewritten (pass_of policy old ids layout answers)) × (features_of answers ≡ Asked (pass_of policy old ids layout answers))
 passes policy old ids layout answers step at = (record { step = step; ruled = at.ruled; table = refl }, at.asked)
 
@@ -283,8 +283,8 @@ pub made_at_first : (p : Pass) → HasMade p 0 [] [] [] (length (type_bytes p.ta
 made_at_first p = record { strings_are = refl; types_are = refl; new_are = refl; type_len_is = omega arith }
 
 -- One more id adds what it appends.
-pub made_next : (p : Pass) (id : ℕ) (more : List FeatureAnswer) (strings : List ℕ) (types new : List Record) (type_len : ℕ) → IsAt p id → HasMade p id strings types new type_len
-    → HasMade (with_answers p (p.answers ++ more)) (suc id) (strings ++ flat_map ended (texts (with_answers p (p.answers ++ more)) id)) (types ++ added (with_answers p (p.answers ++ more)) id)
+pub made_next : (p : Pass) (id : ℕ) (more : List FeatureAnswer) (strings : List ℕ) (types new : List Record) (type_len : ℕ) → IsPassAt p id → HasMade p id strings types new type_len
+    → HasMade (with_answers p (p.answers ++ more)) (suc id) (strings ++ flat_map with_zero_byte (texts (with_answers p (p.answers ++ more)) id)) (types ++ added (with_answers p (p.answers ++ more)) id)
     (new ++ becomes (with_answers p (p.answers ++ more)) id ∷ [])
     (type_len + sum_by record_len (added (with_answers p (p.answers ++ more)) id) + (if gets_filler (with_answers p (p.answers ++ more)) id then 12 else 0))
 made_next p id more strings types new type_len at made =
@@ -293,7 +293,7 @@ made_next p id more strings types new type_len at made =
     let records : sum_by record_len (added_below q (suc id)) ≡ sum_by record_len (added_below p id) + sum_by record_len (added q id) =
     ap (sum_by record_len) g.added ∙ sum_by-append record_len (added_below p id) (added q id) in
     record {
-      strings_are = ap (λ xs. xs ++ flat_map ended (texts q id)) made.strings_are ∙ sym (flat_map-append ended (texts_below p id) (texts q id)) ∙ ap (flat_map ended) (sym g.texts);
+      strings_are = ap (λ xs. xs ++ flat_map with_zero_byte (texts q id)) made.strings_are ∙ sym (flat_map-append with_zero_byte (texts_below p id) (texts q id)) ∙ ap (flat_map with_zero_byte) (sym g.texts);
       types_are = ap (λ rs. rs ++ added q id) made.types_are ∙ sym g.added;
       new_are = ap (λ rs. rs ++ becomes q id ∷ []) made.new_are ∙ sym g.ruled;
       type_len_is = omega (arith, made.type_len_is, records, g.growth);

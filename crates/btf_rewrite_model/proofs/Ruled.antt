@@ -10,7 +10,7 @@ use Rattle.btf_model.specs.Record as kinds
 use Rattle.btf_model.specs.Record.{Kind, Record, unknown, kind_of, vlen}
 use Rattle.btf_rewrite_model.specs.declared.feature.BtfFeature.TheVariants as features
 use Rattle.btf_model.specs.Table.{Table, Fallback, no_fallbacks}
-use Rattle.btf_rewrite_model.specs.Made.{record_at, kind_at, table_ids, union, variants, fallback_of}
+use Rattle.btf_rewrite_model.specs.Made.{record_at, kind_at, table_ids, union, variants, enum64_fallback}
 use Rattle.btf_rewrite_model.specs.declared.ksyms_ids.KsymsIds.{KsymsIds}
 use Rattle.btf_rewrite_model.specs.Feature.{grants}
 use Rattle.btf_rewrite_model.specs.declared.feature.FeatureAnswer.{FeatureAnswer}
@@ -75,12 +75,12 @@ union_kind p lower id k r is denied =
     ap (λ (j : Option Kind). becomes_by p lower id j r) is ∙ ap (λ (b : Bool). if b then r else union r.name r.third (vlen r.info) (variant_members (member_type_id p id) (variants r.tail))) denied in
     ap (λ (q : Record). kind_of q.info) made ∙ kind_made 5 (vlen r.info) kinds.Union (omega arith) (omega arith) refl
 
-left_fallback : (p : Pass) (k : Option Kind) (r : Record) (before : Option Fallback) → k ≡ Some kinds.Enum64 → has p features.Enum64 ≡ false → falls_back_by p k r before ≡ Some (fallback_of r)
-left_fallback p k r before is denied = ap (λ (j : Option Kind). falls_back_by p j r before) is ∙ ap (λ (b : Bool). if b then before else Some (fallback_of r)) denied
+left_fallback : (p : Pass) (k : Option Kind) (r : Record) (before : Option Fallback) → k ≡ Some kinds.Enum64 → has p features.Enum64 ≡ false → falls_back_by p k r before ≡ Some (enum64_fallback r)
+left_fallback p k r before is denied = ap (λ (j : Option Kind). falls_back_by p j r before) is ∙ ap (λ (b : Bool). if b then before else Some (enum64_fallback r)) denied
 
 pub enum64_kept : (policy : FillPolicy) (old new : Table) (ids : Option KsymsIds) (layout : Layout) (answers : List FeatureAnswer) → Rewritten policy old ids layout answers new
     → (id : ℕ) → id < length (begun old ids).records → kind_at (begun old ids) id ≡ Some kinds.Enum64 → grants answers features.Enum64 ≡ false
-    → (kind_at new id ≡ Some kinds.Union) × (slice_get new.fallbacks id ≡ Some (Some (fallback_of (record_at (begun old ids) id))))
+    → (kind_at new id ≡ Some kinds.Union) × (slice_get new.fallbacks id ≡ Some (Some (enum64_fallback (record_at (begun old ids) id))))
 enum64_kept policy old new ids layout answers is id lt kind denied =
     let p : Pass = pass_of policy old ids layout answers in
     let r : Record = record_at p.table id in (

@@ -11,9 +11,9 @@ use Rattle.btf_model.specs.Table.{Fallback}
 use Rattle.btf_rewrite_model.specs.declared.feature.BtfFeature.TheVariants as features
 use Rattle.btf_rewrite_model.specs.Feature.{same_feature, is_global, is_signed, has_no_entries, needs_by, is_sized_and_empty, fills_sized}
 use Rattle.btf_rewrite_model.specs.declared.feature.BtfFeature.{BtfFeature}
-use Rattle.btf_rewrite_model.specs.Made.{record_at, kind_at, entries, variants, byte_int, const, typedef, struct, union, enum, with_linkage, unsigned, fallback_of}
-use Rattle.btf_rewrite_model.specs.Checks.{first_fault, is_read, have_room, fits, record_len}
-use Rattle.btf_rewrite_model.specs.Pass.{Pass, has, name_of, name_checks, sized_asks_zero, unsized_asks_zero, replaced, slash, dot, section_name, renaming, gets_filler, makes_filler, makes_member_type, wants_member_type, least, is_enum64, is_unsized, is_zero_or, is_positive, section_size, is_builtin, texts, texts_by, param_texts, offset_at, added, added_by, free_id, func_asks, data_sec_asks, asks_by, filler_type_text, filler_text, filler, filler_offset, member_type_text, param_text, underscore, type_len_at}
+use Rattle.btf_rewrite_model.specs.Made.{record_at, kind_at, entries, variants, byte_int, const, typedef, struct, union, enum, with_linkage, unsigned, enum64_fallback}
+use Rattle.btf_rewrite_model.specs.Checks.{first_fault, name_is_read, have_room, fits, record_len}
+use Rattle.btf_rewrite_model.specs.Pass.{Pass, has, name_of, name_checks, sized_asks_zero, unsized_asks_zero, replaced, slash, dot, new_section_name, renaming, gets_filler, makes_filler, makes_member_type, wants_member_type, least, is_enum64, is_unsized, is_zero_or, is_positive, section_size, is_builtin, texts, texts_by, param_texts, offset_at, added, added_by, free_id, func_asks, data_sec_asks, asks_by, filler_type_text, filler_text, filler, filler_offset, member_type_text, param_text, underscore_byte, type_len_at}
 use Rattle.btf_rewrite_model.specs.Rule.{becomes_by, known_func, new_name, name_or, named_params, falls_back_by, completed, sized, filled, variant_members, entry_members, member_type_id}
 use Rattle.btf_rewrite_model.specs.Fault.{checks_by, completing_checks, filling_checks, filler_checks, growth_checks, member_checks, all_fit}
 use Rattle.btf_rewrite_model.specs.RewriteLaws.{IsAmong}
@@ -135,7 +135,7 @@ module _ (p q : Pass) (id : ℕ) where
       let none_added : (free : ℕ) → added_by q free id (Some kinds.Enum64) ≡ [] = λ free. ap (λ (b : Bool). if b then byte_int (offset_at q id) ∷ [] else []) makes_none in
       kept q id (Some kinds.Enum64)
       (λ lower. ap (λ (b : Bool). if b then r else union r.name r.third (vlen r.info) (variant_members (member_type_id q id) (variants r.tail))) is_granted) no_texts none_added
-      (λ old. ap (λ (b : Bool). if b then old else Some (fallback_of r)) is_granted)
+      (λ old. ap (λ (b : Bool). if b then old else Some (enum64_fallback r)) is_granted)
       (ap (λ ts. first_fault (have_room (offset_at q id) ts ++ all_fit (type_len_at q id) (added q id))) (ap (λ k. texts_by q id k r) kind ∙ no_texts)
       ∙ ap (λ rs. first_fault ([] ++ all_fit (type_len_at q id) rs)) (ap (λ k. added_by q (free_id q id) id k) kind ∙ none_added (free_id q id)))
   stays (Some kinds.Func) kind fact sized granted =
@@ -147,7 +147,7 @@ module _ (p q : Pass) (id : ℕ) where
       let keeps : (is_global r && (is_builtin name || not (has q features.FuncGlobal))) ≡ false = func_stays (is_global r) (is_builtin name) (has p features.FuncGlobal) (has q features.Func) (has q features.FuncGlobal) is_granted fact.2 (asked features.FuncGlobal) in
       kept q id (Some kinds.Func)
       (λ lower. ap (λ (b : Bool). if b then known_func q r (name_of q id) else typedef r.name r.third) is_granted ∙ ap (known_func q r) reads ∙ ap (λ (b : Bool). if b then with_linkage 0 r else r) keeps)
-      refl (λ free. refl) (λ old. refl) (ap (λ m. first_fault (is_read m ∷ [])) reads)
+      refl (λ free. refl) (λ old. refl) (ap (λ m. first_fault (name_is_read m ∷ [])) reads)
   stays (Some kinds.FuncProto) kind fact sized granted =
       let r : Record = record_at q.table id in
       let is_granted : has q features.Func ≡ true = granted features.Func refl in
@@ -162,10 +162,10 @@ module _ (p q : Pass) (id : ℕ) where
       let reads : name_of q id ≡ Ok name = fact.1 in
       let has_size : (r.third == 0) ≡ false = has_third refl in
       let is_granted : has q features.DataSec ≡ true = granted features.DataSec (first_among (has q features.DataSec && (sized_asks_zero q id r || unsized_asks_zero q id r))) in
-      let section : section_name q name ≡ name = ap (λ (b : Bool). if b then replaced slash dot name else replaced dot underscore name) is_granted ∙ fact.2 in
+      let section : new_section_name q name ≡ name = ap (λ (b : Bool). if b then replaced slash dot name else replaced dot underscore_byte name) is_granted ∙ fact.2 in
       let none_renamed : renaming q (name_of q id) ≡ [] =
-      ap (renaming q) reads ∙ ap (λ (b : Bool). if b then [] else section_name q name ∷ []) ((bytes_eq-Decides (section_name q name) name).1 section) in
-      let named : first_fault (name_checks q id) ≡ None = ap (λ ts. first_fault (is_read (name_of q id) ∷ have_room (offset_at q id) ts)) none_renamed ∙ ap (λ m. first_fault (is_read m ∷ [])) reads in
+      ap (renaming q) reads ∙ ap (λ (b : Bool). if b then [] else new_section_name q name ∷ []) ((bytes_eq-Decides (new_section_name q name) name).1 section) in
+      let named : first_fault (name_checks q id) ≡ None = ap (λ ts. first_fault (name_is_read (name_of q id) ∷ have_room (offset_at q id) ts)) none_renamed ∙ ap (λ m. first_fault (name_is_read m ∷ [])) reads in
       let gets_none : gets_filler q id ≡ false = no_filler kind has_size is_granted named granted in
       let makes_none : makes_filler q id ≡ false = ap (λ (b : Bool). b && (least (gets_filler q) id == id)) gets_none in
       let none_tested : filling_checks q id ≡ [] =
@@ -177,8 +177,8 @@ module _ (p q : Pass) (id : ℕ) where
       ∙ ap (λ ts. record r { name = name_or r.name (offset_at q id) ts }) none_renamed)
       (ap (λ ts. ts ++ (if makes_filler q id then filler_type_text ∷ filler_text ∷ [] else [])) none_renamed ∙ ap (λ (b : Bool). if b then filler_type_text ∷ filler_text ∷ [] else []) makes_none)
       (λ free. ap (λ (b : Bool). if b then filler (filler_offset q id) free else []) makes_none) (λ old. refl)
-      (ap (λ ts. first_fault (is_read (name_of q id) ∷ have_room (offset_at q id) ts ++ (if has q features.DataSec then (if r.third == 0 then completing_checks q id r else filling_checks q id) else flat_map (member_checks q) (entries r.tail)))) none_renamed
-      ∙ ap (λ m. first_fault (is_read m ∷ [] ++ (if has q features.DataSec then (if r.third == 0 then completing_checks q id r else filling_checks q id) else flat_map (member_checks q) (entries r.tail)))) reads
+      (ap (λ ts. first_fault (name_is_read (name_of q id) ∷ have_room (offset_at q id) ts ++ (if has q features.DataSec then (if r.third == 0 then completing_checks q id r else filling_checks q id) else flat_map (member_checks q) (entries r.tail)))) none_renamed
+      ∙ ap (λ m. first_fault (name_is_read m ∷ [] ++ (if has q features.DataSec then (if r.third == 0 then completing_checks q id r else filling_checks q id) else flat_map (member_checks q) (entries r.tail)))) reads
       ∙ ap (λ (b : Bool). first_fault (if b then (if r.third == 0 then completing_checks q id r else filling_checks q id) else flat_map (member_checks q) (entries r.tail))) is_granted
       ∙ ap (λ (b : Bool). first_fault (if b then completing_checks q id r else filling_checks q id)) has_size ∙ ap first_fault none_tested)
   stays k kind fact sized granted = kept q id k (λ lower. refl) refl (λ free. refl) (λ old. refl) refl

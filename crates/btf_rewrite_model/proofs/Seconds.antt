@@ -17,7 +17,7 @@ use Rattle.btf_rewrite_model.specs.declared.feature.BtfFeature.{BtfFeature}
 use Rattle.btf_rewrite_model.specs.Made.{record_at, kind_at, table_ids, byte_int, static_var}
 use Rattle.btf_rewrite_model.specs.Pass.{Pass, makes_member_type, makes_filler, offset_at, filler_offset, filler, filler_type_text, texts, texts_below, added_by, added_below, asks, asks_below}
 use Rattle.btf_rewrite_model.specs.Rule.{becomes, ruled_below, falls_back}
-use Rattle.btf_rewrite_model.specs.Rewritten.{pass_of, old_count, ended, rewritten, AreRuled}
+use Rattle.btf_rewrite_model.specs.Rewritten.{pass_of, old_count, with_zero_byte, rewritten, AreRuled}
 use Rattle.btf_rewrite_model.specs.RewriteLaws.{IsAmong, SecondRewriteChangesNothing}
 use Rattle.btf_rewrite_model.proofs.Ruled.{length-ruled, ruled_at}
 use Rattle.btf_rewrite_model.proofs.GrantedAll.{has_granted, of_either, each_of, all_of_both}
@@ -55,7 +55,7 @@ module _ (q : Pass) (each : (id : ℕ) → id < old_count q → Stays q id (kind
   gives_back many =
       let n : ℕ = old_count q in
       let all : n ≤ old_count q = omega arith in
-      ap (λ ts. record (rewritten q) { strings = q.table.strings ++ flat_map ended ts }) (no_texts n all)
+      ap (λ ts. record (rewritten q) { strings = q.table.strings ++ flat_map with_zero_byte ts }) (no_texts n all)
       ∙ ap (λ xs. record (rewritten q) { strings = xs }) (append-nil q.table.strings)
       ∙ ap (λ rs. record (rewritten q) { strings = q.table.strings; records = ruled_below q n ++ rs; fallbacks = map (falls_back q) (table_ids q.table) ++ no_fallbacks rs }) (none_added n all)
       ∙ ap (λ rs. record q.table { records = rs; fallbacks = map (falls_back q) (table_ids q.table) ++ [] }) (append-nil (ruled_below q n) ∙ same_records n all ∙ take_all n q.table.records all)

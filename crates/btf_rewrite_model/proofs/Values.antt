@@ -17,12 +17,12 @@ use Rattle.btf_rewrite_model.specs.declared.feature.BtfFeature.TheVariants as fe
 use Rattle.btf_rewrite_model.specs.Feature.{is_signed}
 use Rattle.btf_rewrite_model.specs.declared.feature.FeatureAnswer.{FeatureAnswer}
 use Rattle.btf_rewrite_model.specs.declared.feature.FillPolicy.{FillPolicy}
-use Rattle.btf_rewrite_model.specs.Made.{record_at, kind_at, union, unsigned, variants, fallback_of}
+use Rattle.btf_rewrite_model.specs.Made.{record_at, kind_at, union, unsigned, variants, enum64_fallback}
 use Rattle.btf_rewrite_model.specs.Ksyms.{appends_int, each_stepped, int_text}
 use Rattle.btf_rewrite_model.specs.declared.ksyms_ids.KsymsIds.{KsymsIds}
 use Rattle.btf_rewrite_model.specs.Pass.{Pass, Layout, has, texts_below}
 use Rattle.btf_rewrite_model.specs.Rule.{becomes, becomes_by, ruled_below, falls_back, falls_back_by, variant_members, member_type_id}
-use Rattle.btf_rewrite_model.specs.Rewritten.{begun, ended, old_count, pass_of, Rewritten}
+use Rattle.btf_rewrite_model.specs.Rewritten.{begun, with_zero_byte, old_count, pass_of, Rewritten}
 use Rattle.btf_rewrite_model.specs.RewriteLaws.{keeps_size}
 use Rattle.btf_model.proofs.Blobs.{slice_get-append_left}
 use Rattle.btf_model.proofs.Texts.{text_stays}
@@ -50,9 +50,9 @@ variants_keep id vs (Some kinds.DeclTag) r fallback is = absurd (no_variants vs 
 variants_keep id vs k r fallback is = refl
 
 enum64_stays : (id : ℕ) (vs : List Variant) (granted : Bool) (r made : Record) (fallback : Option Fallback) → kind_of r.info ≡ Some kinds.Enum64 → kind_of made.info ≡ Some kinds.Union → Ok vs ≡ variants_by id (Some kinds.Enum64) r fallback
-    → Ok vs ≡ variants_by id (kind_of (if granted then r else made).info) (if granted then r else made) (if granted then fallback else Some (fallback_of r))
+    → Ok vs ≡ variants_by id (kind_of (if granted then r else made).info) (if granted then r else made) (if granted then fallback else Some (enum64_fallback r))
 enum64_stays id vs true r made fallback kind as_union is = variants_as id vs r kinds.Enum64 fallback kind is
-enum64_stays id vs false r made fallback kind as_union is = variants_as id vs made kinds.Union (Some (fallback_of r)) as_union is
+enum64_stays id vs false r made fallback kind as_union is = variants_as id vs made kinds.Union (Some (enum64_fallback r)) as_union is
 
 rule_keeps : (p : Pass) (lower : List Record) (id : ℕ) (vs : List Variant) (k : Option Kind) (r : Record) (fallback : Option Fallback) → kind_of r.info ≡ k → Ok vs ≡ variants_by id k r fallback
     → Ok vs ≡ variants_by id (kind_of (becomes_by p lower id k r).info) (becomes_by p lower id k r) (falls_back_by p k r fallback)
@@ -95,7 +95,7 @@ module _ (policy : FillPolicy) (old new : Table) (ids : Option KsymsIds) (layout
   texts_stay : (offset : ℕ) (text : List ℕ) → text_at old.strings offset ≡ Ok text → text_at new.strings offset ≡ Ok text
   texts_stay offset text reads =
       let p : Pass = pass_of policy old ids layout answers in
-      let added : List ℕ = flat_map ended (texts_below p (old_count p)) in
+      let added : List ℕ = flat_map with_zero_byte (texts_below p (old_count p)) in
       let first = begun_strings old ids in
       let strings_are : new.strings ≡ (old.strings ++ first.0) ++ added = ap (λ (t : Table). t.strings) is.table ∙ ap (λ xs. xs ++ added) first.1 in
       ap (λ xs. text_at xs offset) strings_are ∙ text_stays (old.strings ++ first.0) added offset text (text_stays old.strings first.0 offset text reads)

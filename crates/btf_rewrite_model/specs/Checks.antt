@@ -17,9 +17,9 @@ first_fault (None ∷ checks) = first_fault checks
 first_fault (Some refusal ∷ checks) = Some refusal
 
 -- a name can be read
-abbrev pub is_read : Result (List ℕ) Refusal → Check
-is_read (Ok name) = None
-is_read (Err refusal) = Some refusal
+abbrev pub name_is_read : Result (List ℕ) Refusal → Check
+name_is_read (Ok name) = None
+name_is_read (Err refusal) = Some refusal
 
 -- an id has a record
 abbrev pub is_record : ℕ → Option Record → Check

@@ -7,7 +7,7 @@ use Rattle.btf_model.specs.Record.{Kind, Record}
 use Rattle.btf_model.specs.Refusal.{Refusal, InvalidTypeInfo, UnknownSectionSize, SymbolOffsetNotFound}
 use Rattle.btf_rewrite_model.specs.declared.feature.BtfFeature.TheVariants as features
 use Rattle.btf_rewrite_model.specs.Made.{Entry, entries, record_at, kind_at, is_static, byte_int, static_var}
-use Rattle.btf_rewrite_model.specs.Checks.{Check, first_fault, is_read, is_known, has_room, have_room, fits, record_len}
+use Rattle.btf_rewrite_model.specs.Checks.{Check, first_fault, name_is_read, is_known, has_room, have_room, fits, record_len}
 use Rattle.btf_rewrite_model.specs.Ksyms.{is_var}
 use Rattle.btf_rewrite_model.specs.Pass.{Pass, has, name_of, name_checks, section_size, gets_filler, makes_filler, filler_type_text, filler_text, filler_offset, texts, added, offset_at, type_len_at, symbol_offset, member_type_text}
 
@@ -31,7 +31,7 @@ is_placed offset name = None
 -- an entry that is completed: its type exists, is a VAR, has a name, and has a symbol unless it is Static
 abbrev pub entry_checks : Pass → Entry → List Check
 entry_checks p e =
-    is_known p.table e.type ∷ is_var (kind_at p.table e.type) ∷ is_read (name_of p e.type)
+    is_known p.table e.type ∷ is_var (kind_at p.table e.type) ∷ name_is_read (name_of p e.type)
     ∷ (if is_static (record_at p.table e.type) then None else is_placed (symbol_offset p e.type) (name_of p e.type))
     ∷ []
 
@@ -75,7 +75,7 @@ member_type_has_room offset used = have_room offset (member_type_text ∷ []) ++
 
 -- The tests of an id, in order, by its kind.
 abbrev pub checks_by : Pass → ℕ → Option Kind → Record → List Check
-checks_by p id (Some kinds.Func) r = is_read (name_of p id) ∷ []
+checks_by p id (Some kinds.Func) r = name_is_read (name_of p id) ∷ []
 checks_by p id (Some kinds.FuncProto) r = have_room (offset_at p id) (texts p id)
 checks_by p id (Some kinds.Enum64) r =
     have_room (offset_at p id) (texts p id) ++ all_fit (type_len_at p id) (added p id)

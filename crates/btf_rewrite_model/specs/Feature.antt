@@ -12,19 +12,19 @@ use Rattle.btf_rewrite_model.specs.declared.feature.FillPolicy.{FillPolicy}
 use Rattle.btf_rewrite_model.specs.declared.feature.FillPolicy.TheVariants.{KeepSized, FillSized}
 
 -- the number of a feature among the eight
-abbrev pub number : BtfFeature → ℕ
-number Func = 0
-number FuncGlobal = 1
-number DataSec = 2
-number DataSecZero = 3
-number Float = 4
-number DeclTag = 5
-number TypeTag = 6
-number Enum64 = 7
+abbrev pub feature_number : BtfFeature → ℕ
+feature_number Func = 0
+feature_number FuncGlobal = 1
+feature_number DataSec = 2
+feature_number DataSecZero = 3
+feature_number Float = 4
+feature_number DeclTag = 5
+feature_number TypeTag = 6
+feature_number Enum64 = 7
 
 -- the two features are the same
 abbrev pub same_feature : BtfFeature → BtfFeature → Bool
-same_feature f g = number f == number g
+same_feature f g = feature_number f == feature_number g
 
 -- The answers grant a feature if the first answer for this feature is yes. A feature without an answer is not granted.
 abbrev pub grants : List FeatureAnswer → BtfFeature → Bool

@@ -1,6 +1,6 @@
 -- The names of the eight features, their bits, and the answers of a kernel that has some of them.
 use Rattle.std.specs.Prelude.{ℕ, ◌/◌, ◌%◌, ◌^◌, ◌==◌, Bool, List, [], ◌∷◌, map, codes}
-use Rattle.btf_rewrite_model.specs.Feature.{number}
+use Rattle.btf_rewrite_model.specs.Feature.{feature_number}
 use Rattle.btf_rewrite_model.specs.declared.feature.BtfFeature.{BtfFeature}
 use Rattle.btf_rewrite_model.specs.declared.feature.BtfFeature.TheVariants.{Func, FuncGlobal, DataSec, DataSecZero, Float, DeclTag, TypeTag, Enum64}
 use Rattle.btf_rewrite_model.specs.declared.feature.FeatureAnswer.{FeatureAnswer}
@@ -22,7 +22,7 @@ all_features = Func ∷ FuncGlobal ∷ DataSec ∷ DataSecZero ∷ Float ∷ Dec
 
 -- The bit of a feature is set.
 abbrev pub has_bit : ℕ → BtfFeature → Bool
-has_bit bits f = bits / 2 ^ number f % 2 == 1
+has_bit bits f = bits / 2 ^ feature_number f % 2 == 1
 
 -- the answers of a kernel with these features
 abbrev pub answers_of : (BtfFeature → Bool) → List FeatureAnswer

@@ -9,7 +9,7 @@ use Rattle.btf_model.specs.Refusal.{Refusal, InvalidDatasec}
 use Rattle.btf_model.specs.Table.{Table, type_bytes, with_string, with_type}
 use Rattle.btf_model.specs.Text.{text_at}
 use Rattle.btf_rewrite_model.specs.Made.{Entry, entries, entry_words, record_at, kind_at, table_ids, c_int, with_linkage, wants_name}
-use Rattle.btf_rewrite_model.specs.Checks.{Check, first_fault, is_read, is_known, has_room, fits, record_len}
+use Rattle.btf_rewrite_model.specs.Checks.{Check, first_fault, name_is_read, is_known, has_room, fits, record_len}
 use Rattle.btf_rewrite_model.specs.declared.ksyms_ids.KsymsIds.{KsymsIds}
 
 -- ---- what the step reads
@@ -38,12 +38,12 @@ symbol_type t (Some placeholder) = (record_at t placeholder).third
 symbol_type t None = int_of_4 t
 
 -- the entries of the DATASEC of the symbols
-abbrev pub symbols : Table → KsymsIds → List Entry
-symbols t ids = entries (record_at t ids.datasec_id).tail
+abbrev pub ksyms_entries : Table → KsymsIds → List Entry
+ksyms_entries t ids = entries (record_at t ids.datasec_id).tail
 
 -- an entry has this id as its type
-abbrev pub names : Table → KsymsIds → ℕ → Bool
-names t ids id = list_any (λ e. e.type == id) (symbols t ids)
+abbrev pub names_ksyms : Table → KsymsIds → ℕ → Bool
+names_ksyms t ids id = list_any (λ e. e.type == id) (ksyms_entries t ids)
 
 -- the kind is FUNC
 abbrev pub is_func : Option Kind → Bool
@@ -52,18 +52,18 @@ is_func k = false
 
 -- a FUNC among the entries has this prototype
 abbrev pub is_prototype : Table → KsymsIds → ℕ → Bool
-is_prototype t ids id = list_any (λ e. is_func (kind_at t e.type) && (record_at t e.type).third == id) (symbols t ids)
+is_prototype t ids id = list_any (λ e. is_func (kind_at t e.type) && (record_at t e.type).third == id) (ksyms_entries t ids)
 
 -- ---- what becomes of a record
 
 -- the parameters that have a type and no name get this name
-abbrev pub named : ℕ → List ℕ → List ℕ
-named new (name ∷ type ∷ words) = (if wants_name name type then new else name) ∷ type ∷ named new words
-named new words = words
+abbrev pub named_parameters : ℕ → List ℕ → List ℕ
+named_parameters new (name ∷ type ∷ words) = (if wants_name name type then new else name) ∷ type ∷ named_parameters new words
+named_parameters new words = words
 
 -- the parameters of a prototype: if there is a placeholder, they get its name
 abbrev pub with_names : Table → Option ℕ → List ℕ → List ℕ
-with_names t (Some placeholder) words = named (record_at t placeholder).name words
+with_names t (Some placeholder) words = named_parameters (record_at t placeholder).name words
 with_names t None words = words
 
 -- the type of an entry: the placeholder, if there is one, replaces a FUNC
@@ -79,15 +79,15 @@ laid_out t placeholder offset (e ∷ es) = record { type = entry_type t placehol
 -- What a record becomes, by its kind. A FUNC or VAR among the entries becomes Global, and such a VAR gets the type of
 -- the symbols. The parameters of such a FUNC get names. The DATASEC gets a new layout. All other records are unchanged.
 abbrev pub stepped : Table → KsymsIds → ℕ → Option Kind → Record → Record
-stepped t ids id (Some Func) r = if names t ids id then with_linkage 1 r else r
+stepped t ids id (Some Func) r = if names_ksyms t ids id then with_linkage 1 r else r
 stepped t ids id (Some Var) r =
-    if names t ids id then record r { third = symbol_type t ids.placeholder_id; tail = 1 ∷ [] } else r
+    if names_ksyms t ids id then record r { third = symbol_type t ids.placeholder_id; tail = 1 ∷ [] } else r
 stepped t ids id (Some FuncProto) r =
     if is_prototype t ids id then record r { tail = with_names t ids.placeholder_id r.tail } else r
 stepped t ids id (Some DataSec) r =
     if id == ids.datasec_id then record r {
-      third = 4 * length (symbols t ids);
-      tail = flat_map entry_words (laid_out t ids.placeholder_id 0 (symbols t ids));
+      third = 4 * length (ksyms_entries t ids);
+      tail = flat_map entry_words (laid_out t ids.placeholder_id 0 (ksyms_entries t ids));
     } else r
 stepped t ids id k r = r
 
@@ -113,14 +113,14 @@ placeholder_checks t None =
 -- the id is a DATASEC whose name can be read
 abbrev pub data_sec_checks : Table → ℕ → List Check
 data_sec_checks t id =
-    is_known t id ∷ is_data_sec (kind_at t id) ∷ is_read (text_at t.strings (record_at t id).name) ∷ []
+    is_known t id ∷ is_data_sec (kind_at t id) ∷ name_is_read (text_at t.strings (record_at t id).name) ∷ []
 
 -- the tests of an entry's type, by its kind: its name can be read, and the prototype of a FUNC exists if there is a
 -- placeholder
 abbrev pub symbol_checks : Table → Option ℕ → Option Kind → Record → List Check
 symbol_checks t placeholder (Some Func) r =
-    is_read (text_at t.strings r.name) ∷ (if is_some placeholder then is_known t r.third ∷ [] else [])
-symbol_checks t placeholder (Some Var) r = is_read (text_at t.strings r.name) ∷ []
+    name_is_read (text_at t.strings r.name) ∷ (if is_some placeholder then is_known t r.third ∷ [] else [])
+symbol_checks t placeholder (Some Var) r = name_is_read (text_at t.strings r.name) ∷ []
 symbol_checks t placeholder k r = Some InvalidDatasec ∷ []
 
 -- the tests of an entry: its type exists, and is a symbol
@@ -131,7 +131,7 @@ ksyms_entry_checks t placeholder e = is_known t e.type ∷ symbol_checks t place
 abbrev pub ksyms_fault : Table → KsymsIds → Option Refusal
 ksyms_fault t ids =
     first_fault (placeholder_checks t ids.placeholder_id ++ data_sec_checks t ids.datasec_id
-    ++ flat_map (ksyms_entry_checks t ids.placeholder_id) (symbols t ids))
+    ++ flat_map (ksyms_entry_checks t ids.placeholder_id) (ksyms_entries t ids))
 
 -- ---- the table
 

@@ -62,8 +62,8 @@ abbrev pub static_var : ℕ → ℕ → Record
 static_var name type = made.var name type 0
 
 -- a DATASEC with this number of entries
-abbrev pub data_sec : ℕ → ℕ → ℕ → List Entry → Record
-data_sec name size count es = made.data_sec name size count (flat_map entry_words es)
+abbrev pub made_data_sec : ℕ → ℕ → ℕ → List Entry → Record
+made_data_sec name size count es = made.data_sec name size count (flat_map entry_words es)
 
 -- a FUNC with another linkage, which is its vlen
 abbrev pub with_linkage : ℕ → Record → Record
@@ -74,5 +74,5 @@ abbrev pub unsigned : Record → Record
 unsigned r = record r { info = with_flag r.info false }
 
 -- what an ENUM64 records and a UNION does not
-abbrev pub fallback_of : Record → Fallback
-fallback_of r = record { signed = is_signed r; variants = variants r.tail }
+abbrev pub enum64_fallback : Record → Fallback
+enum64_fallback r = record { signed = is_signed r; variants = variants r.tail }

@@ -17,7 +17,7 @@ use Rattle.btf_rewrite_model.specs.declared.feature.BtfFeature.{BtfFeature}
 use Rattle.btf_rewrite_model.specs.declared.feature.FeatureAnswer.{FeatureAnswer}
 use Rattle.btf_rewrite_model.specs.declared.feature.FillPolicy.{FillPolicy}
 use Rattle.btf_rewrite_model.specs.Made.{record_at, kind_at, byte_int, static_var, wants_name}
-use Rattle.btf_rewrite_model.specs.Checks.{Check, first_fault, is_read, have_room, record_len, in_a_word}
+use Rattle.btf_rewrite_model.specs.Checks.{Check, first_fault, name_is_read, have_room, record_len, in_a_word}
 
 -- what a rewrite knows about the program: the sizes of its sections and the offsets of its symbols, by name
 pub record Layout : Type 0 where
@@ -64,8 +64,8 @@ abbrev pub dot : ℕ
 dot = 0x2e
 
 -- the byte of `_`
-abbrev pub underscore : ℕ
-underscore = 0x5f
+abbrev pub underscore_byte : ℕ
+underscore_byte = 0x5f
 
 -- a name in which each occurrence of one byte is replaced by another
 abbrev pub replaced : ℕ → ℕ → List ℕ → List ℕ
@@ -73,12 +73,12 @@ replaced byte other name = map (λ b. if b == byte then other else b) name
 
 -- The new name of a DATASEC. If it stays a DATASEC, `.` replaces `/`, because kernels refuse `/`. If it becomes a
 -- STRUCT, `_` replaces `.`, because no C name has a `.`.
-abbrev pub section_name : Pass → List ℕ → List ℕ
-section_name p name = if has p features.DataSec then replaced slash dot name else replaced dot underscore name
+abbrev pub new_section_name : Pass → List ℕ → List ℕ
+new_section_name p name = if has p features.DataSec then replaced slash dot name else replaced dot underscore_byte name
 
 -- the text that is appended for a new name; none if the name is unchanged
 abbrev pub renaming : Pass → Result (List ℕ) Refusal → List (List ℕ)
-renaming p (Ok name) = if bytes_eq (section_name p name) name then [] else section_name p name ∷ []
+renaming p (Ok name) = if bytes_eq (new_section_name p name) name then [] else new_section_name p name ∷ []
 renaming p (Err refusal) = []
 
 -- ---- sizes of sections, offsets of symbols, and the filler
@@ -264,7 +264,7 @@ is_positive None = false
 
 -- the name of a DATASEC can be read, and its new name fits
 abbrev pub name_checks : Pass → ℕ → List Check
-name_checks p id = is_read (name_of p id) ∷ have_room (offset_at p id) (renaming p (name_of p id))
+name_checks p id = name_is_read (name_of p id) ∷ have_room (offset_at p id) (renaming p (name_of p id))
 
 -- A DATASEC of size 0 without entries asks for DataSecZero if its section has a size above 0, after the test that its
 -- new name fits.

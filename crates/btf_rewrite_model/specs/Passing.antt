@@ -7,7 +7,7 @@ use Rattle.btf_rewrite_model.specs.declared.feature.BtfFeature.{BtfFeature}
 use Rattle.btf_rewrite_model.specs.declared.feature.FeatureAnswer.{FeatureAnswer}
 use Rattle.btf_rewrite_model.specs.Pass.{Pass, asks_below, each_once, texts_below, added_below, type_len_at, is_least}
 use Rattle.btf_rewrite_model.specs.Rule.{ruled_below}
-use Rattle.btf_rewrite_model.specs.Rewritten.{AreRuled, ended}
+use Rattle.btf_rewrite_model.specs.Rewritten.{AreRuled, with_zero_byte}
 
 -- the features of these answers
 abbrev pub features_of : List FeatureAnswer → List BtfFeature
@@ -18,14 +18,14 @@ abbrev pub AreAnswersTo : List BtfFeature → List FeatureAnswer → Type 0
 AreAnswersTo fs answers = features_of answers ≡ each_once fs
 
 -- When a pass comes to an id, its answers are the answers to what the lower ids ask for, and no lower id is refused.
-pub record IsAt (p : Pass) (id : ℕ) : Type 0 where
+pub record IsPassAt (p : Pass) (id : ℕ) : Type 0 where
   pub asked : AreAnswersTo (asks_below p id) p.answers
   pub ruled : AreRuled p id
 
 -- What a pass has made when it comes to an id: the appended string bytes and records, the new records, and the length
 -- of all records.
 pub record HasMade (p : Pass) (id : ℕ) (strings : List ℕ) (types new : List Record) (type_len : ℕ) : Type 0 where
-  pub strings_are : strings ≡ flat_map ended (texts_below p id)
+  pub strings_are : strings ≡ flat_map with_zero_byte (texts_below p id)
   pub types_are : types ≡ added_below p id
   pub new_are : new ≡ ruled_below p id
   pub type_len_is : type_len ≡ type_len_at p id

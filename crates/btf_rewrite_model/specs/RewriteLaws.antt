@@ -14,7 +14,7 @@ use Rattle.btf_rewrite_model.specs.declared.feature.BtfFeature.{BtfFeature}
 use Rattle.btf_rewrite_model.specs.declared.feature.FeatureAnswer.{FeatureAnswer}
 use Rattle.btf_rewrite_model.specs.declared.feature.FillPolicy.{FillPolicy}
 use Rattle.btf_rewrite_model.specs.declared.feature.FillPolicy.TheVariants.{KeepSized}
-use Rattle.btf_rewrite_model.specs.Made.{record_at, kind_at, fallback_of}
+use Rattle.btf_rewrite_model.specs.Made.{record_at, kind_at, enum64_fallback}
 use Rattle.btf_rewrite_model.specs.Checks.{first_fault, record_len}
 use Rattle.btf_rewrite_model.specs.declared.ksyms_ids.KsymsIds.{KsymsIds}
 use Rattle.btf_rewrite_model.specs.Pass.{Pass, Layout, has, name_checks, asks, asks_below, Asked, texts_below, added_below, fills_unsized, gets_filler, growth_below, unsized_asks_zero, data_sec_asks}
@@ -64,7 +64,7 @@ Enum64KeepsItsValues =
     → (id : ℕ) → id < length (begun old ids).records → kind_at (begun old ids) id ≡ Some kinds.Enum64
     → grants answers features.Enum64 ≡ false
     → (kind_at new id ≡ Some kinds.Union)
-    × (slice_get new.fallbacks id ≡ Some (Some (fallback_of (record_at (begun old ids) id))))
+    × (slice_get new.fallbacks id ≡ Some (Some (enum64_fallback (record_at (begun old ids) id))))
 
 -- The rewrite does not change the size of a record of this kind. A VAR, FUNC, FUNC_PROTO, DATASEC or DECL_TAG may
 -- change its size, or the type that it refers to.

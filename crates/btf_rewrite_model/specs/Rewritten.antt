@@ -34,14 +34,14 @@ abbrev pub old_count : Pass → ℕ
 old_count p = length p.table.records
 
 -- each text with its zero byte
-abbrev pub ended : List ℕ → List ℕ
-ended text = text ++ 0 ∷ []
+abbrev pub with_zero_byte : List ℕ → List ℕ
+with_zero_byte text = text ++ 0 ∷ []
 
 -- The table that a pass makes: each id has the record and the fallback that its rule gives, and strings and records are
 -- appended.
 abbrev pub rewritten : Pass → Table
 rewritten p = record p.table {
-  strings = p.table.strings ++ flat_map ended (texts_below p (old_count p));
+  strings = p.table.strings ++ flat_map with_zero_byte (texts_below p (old_count p));
   records = ruled_below p (old_count p) ++ added_below p (old_count p);
   fallbacks = map (falls_back p) (table_ids p.table) ++ no_fallbacks (added_below p (old_count p));
 }

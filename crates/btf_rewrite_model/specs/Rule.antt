@@ -9,7 +9,7 @@ use Rattle.btf_model.specs.Refusal.{Refusal}
 use Rattle.btf_model.specs.Table.{Variant, Fallback}
 use Rattle.btf_rewrite_model.specs.declared.feature.BtfFeature.TheVariants as features
 use Rattle.btf_rewrite_model.specs.Feature.{is_global, is_signed}
-use Rattle.btf_rewrite_model.specs.Made.{Entry, entries, variants, record_at, kind_at, is_static, wants_name, byte_int, const, typedef, struct, union, enum, data_sec, with_linkage, unsigned, fallback_of}
+use Rattle.btf_rewrite_model.specs.Made.{Entry, entries, variants, record_at, kind_at, is_static, wants_name, byte_int, const, typedef, struct, union, enum, made_data_sec, with_linkage, unsigned, enum64_fallback}
 use Rattle.btf_rewrite_model.specs.Pass.{Pass, has, name_of, least, renaming, section_size, gets_filler, wants_member_type, offset_at, free_id, is_builtin, param_text, symbol_offset}
 
 -- ---- functions
@@ -69,14 +69,14 @@ placed p e =
 
 -- a DATASEC of this size whose only entry is the filler
 abbrev pub filled : Pass → ℕ → ℕ → Record → Record
-filled p id size r = data_sec (new_name p id r) size 1 (record { type = filler_id p id; offset = 0; size = size } ∷ [])
+filled p id size r = made_data_sec (new_name p id r) size 1 (record { type = filler_id p id; offset = 0; size = size } ∷ [])
 
 -- A DATASEC of size 0 is completed: it gets the size of its section, and each entry gets its offset; or the filler
 -- becomes its only entry.
 abbrev pub completed : Pass → ℕ → ℕ → Record → Record
 completed p id size r =
     if gets_filler p id then filled p id (max size 1) r
-    else data_sec (new_name p id r) size (vlen r.info) (map (placed p) (entries r.tail))
+    else made_data_sec (new_name p id r) size (vlen r.info) (map (placed p) (entries r.tail))
 
 -- A DATASEC that has a size retains it: it only gets its new name, or also the filler.
 abbrev pub sized : Pass → ℕ → Record → Record
@@ -122,7 +122,7 @@ becomes p id = becomes_by p (ruled_below p id) id (kind_at p.table id) (record_a
 -- The fallback of an id after the pass: an ENUM64 that becomes a UNION leaves a fallback; otherwise the old one is
 -- retained.
 abbrev pub falls_back_by : Pass → Option Kind → Record → Option Fallback → Option Fallback
-falls_back_by p (Some kinds.Enum64) r old = if has p features.Enum64 then old else Some (fallback_of r)
+falls_back_by p (Some kinds.Enum64) r old = if has p features.Enum64 then old else Some (enum64_fallback r)
 falls_back_by p k r old = old
 
 -- the fallback that an id has after the pass

@@ -7,7 +7,7 @@ use Rattle.std.proofs.lemmas.List.Sums.{sum_by-append}
 use Rattle.btf_model.specs.Record.{Record}
 use Rattle.btf_model.specs.Table.{Table, no_fallbacks}
 use Rattle.btf_rewrite_model.specs.Checks.{record_len}
-use Rattle.btf_rewrite_model.specs.Rewritten.{ended}
+use Rattle.btf_rewrite_model.specs.Rewritten.{with_zero_byte}
 use Rattle.btf_records.specs.BtfType.{record_of, fallback_of}
 use Rattle.btf_table.specs.declared.table.changes.Changes.{Changes}
 use Rattle.btf_table.specs.Adding.{HasRoom, Adds}
@@ -26,7 +26,7 @@ adds_none t c room = record {
 -- first some, then others
 pub adds_then : (t : Table) (old mid new : Changes) (ts us : List (List ℕ)) (rs qs : List Record) → Adds t old mid ts rs → Adds t mid new us qs → Adds t old new (ts ++ us) (rs ++ qs)
 adds_then t old mid new ts us rs qs first then = record {
-  strings = then.strings ∙ ap (λ (xs : List ℕ). xs ++ flat_map ended us) first.strings ∙ append_assoc old.new_strings.items (flat_map ended ts) (flat_map ended us) ∙ ap (λ xs. old.new_strings.items ++ xs) (sym (flat_map-append ended ts us));
+  strings = then.strings ∙ ap (λ (xs : List ℕ). xs ++ flat_map with_zero_byte us) first.strings ∙ append_assoc old.new_strings.items (flat_map with_zero_byte ts) (flat_map with_zero_byte us) ∙ ap (λ xs. old.new_strings.items ++ xs) (sym (flat_map-append with_zero_byte ts us));
   records = then.records ∙ ap (λ xs. xs ++ qs) first.records ∙ append_assoc (map record_of old.new_types.items) rs qs;
   fallbacks = then.fallbacks ∙ ap (λ xs. xs ++ no_fallbacks qs) first.fallbacks ∙ append_assoc (map fallback_of old.new_types.items) (no_fallbacks rs) (no_fallbacks qs)
       ∙ ap (λ xs. map fallback_of old.new_types.items ++ xs) (sym (map-append _ rs qs));

@@ -17,7 +17,7 @@ use Rattle.btf_table.specs.Changes.{put_all, each, changed}
 use Rattle.btf_table.specs.declared.table.changes.Changes.{Changes}
 use Rattle.btf_table.proofs.Put.{length-put}
 use Rattle.btf_table.proofs.Spelled.{after_len}
-use Rattle.btf_table.specs.Denied.{AllHaveKinds, AreIds, AreDenied, deny_all}
+use Rattle.btf_table.specs.Denied.{AllHaveKinds, AreTypeIds, AreDenied, deny_all}
 
 pub length-deny : (ids : List ℕ) (rs : List Record) → length (deny_all ids rs) ≡ length rs
 length-deny [] rs = refl
@@ -29,21 +29,21 @@ deny_append [] more rs = refl
 deny_append (id ∷ ids) more rs = deny_append ids more (set rs id (denied (get_or rs id unknown)))
 
 -- records after these ids do not change
-pub deny_front : (ids : List ℕ) (xs ys : List Record) → AreIds (length xs) ids → deny_all ids (xs ++ ys) ≡ deny_all ids xs ++ ys
+pub deny_front : (ids : List ℕ) (xs ys : List Record) → AreTypeIds (length xs) ids → deny_all ids (xs ++ ys) ≡ deny_all ids xs ++ ys
 deny_front [] xs ys inside = refl
 deny_front (id ∷ ids) xs ys inside =
     let x : Record = denied (get_or xs id unknown) in
     ap (λ y. deny_all ids (set (xs ++ ys) id (denied y))) (get_or_append_left xs ys unknown id inside.0.1) ∙ ap (deny_all ids) (set-append_left xs ys id x inside.0.1)
-    ∙ deny_front ids (set xs id x) ys (subst (λ (n : ℕ). AreIds n ids) (sym (length-set xs id x)) inside.1)
+    ∙ deny_front ids (set xs id x) ys (subst (λ (n : ℕ). AreTypeIds n ids) (sym (length-set xs id x)) inside.1)
 
 -- nor does the record of id 0
-pub deny_first : (count : ℕ) (ids : List ℕ) (x : Record) (xs : List Record) → AreIds count ids → (rest : List Record) × (deny_all ids (x ∷ xs) ≡ x ∷ rest)
+pub deny_first : (count : ℕ) (ids : List ℕ) (x : Record) (xs : List Record) → AreTypeIds count ids → (rest : List Record) × (deny_all ids (x ∷ xs) ≡ x ∷ rest)
 deny_first count [] x xs inside = (xs, refl)
 deny_first count (zero ∷ ids) x xs inside = absurd (omega (arith, inside.0.0))
 deny_first count (suc id ∷ ids) x xs inside = deny_first count ids x (set xs id (denied (get_or xs id unknown))) inside.1
 
 -- the last id is denied
-pub deny_last : (ids : List ℕ) (xs : List Record) (x : Record) (id : ℕ) → AreIds (length xs) ids → length xs ≡ id → deny_all (ids ++ id ∷ []) (xs ++ x ∷ []) ≡ deny_all ids xs ++ denied x ∷ []
+pub deny_last : (ids : List ℕ) (xs : List Record) (x : Record) (id : ℕ) → AreTypeIds (length xs) ids → length xs ≡ id → deny_all (ids ++ id ∷ []) (xs ++ x ∷ []) ≡ deny_all ids xs ++ denied x ∷ []
 deny_last ids xs x id inside at =
     let front : List Record = deny_all ids xs in
     let here : length front ≡ id = length-deny ids xs ∙ at in
@@ -52,16 +52,16 @@ deny_last ids xs x id inside at =
     ∙ ap (λ y. set (front ++ x ∷ []) (length front) (denied y)) (get_or-append_seam front x [] unknown) ∙ set-append_seam front x [] (denied x)
 
 -- more ids are inside
-pub ids_more : (count more : ℕ) (ids : List ℕ) → count ≤ more → AreIds count ids → AreIds more ids
+pub ids_more : (count more : ℕ) (ids : List ℕ) → count ≤ more → AreTypeIds count ids → AreTypeIds more ids
 ids_more count more [] le inside = tt
 ids_more count more (id ∷ ids) le inside = ((inside.0.0, omega (arith, inside.0.1, le)), ids_more count more ids le inside.1)
 
-pub ids_next : (count : ℕ) (ids : List ℕ) (id : ℕ) → AreIds count ids → 0 < id → id < count → AreIds count (ids ++ id ∷ [])
+pub ids_next : (count : ℕ) (ids : List ℕ) (id : ℕ) → AreTypeIds count ids → 0 < id → id < count → AreTypeIds count (ids ++ id ∷ [])
 ids_next count [] id inside low lt = ((low, lt), tt)
 ids_next count (j ∷ ids) id inside low lt = (inside.0, ids_next count ids id inside.1 low lt)
 
 -- the id at a place
-pub id_at : (count : ℕ) (ids : List ℕ) (k d : ℕ) → AreIds count ids → k < length ids → get_or ids k d < count
+pub id_at : (count : ℕ) (ids : List ℕ) (k d : ℕ) → AreTypeIds count ids → k < length ids → get_or ids k d < count
 id_at count [] k d inside lt = absurd (omega (arith, lt))
 id_at count (id ∷ ids) zero d inside lt = inside.0.1
 id_at count (id ∷ ids) (suc k) d inside lt = id_at count ids k d inside.1 (omega (arith, lt))
@@ -94,7 +94,7 @@ one_denied ids k id old types d new lt id_is inside before words fallback tail k
     }
 
 -- A table retains its invariant.
-pub consistent_denied : (b : Inside) (types : Vec BtfType Global) (ids : List ℕ) → IsConsistent b → AreIds (length b.types.items) ids → AreDenied ids b.types.items types.items → IsConsistent (record b { types = types })
+pub consistent_denied : (b : Inside) (types : Vec BtfType Global) (ids : List ℕ) → IsConsistent b → AreTypeIds (length b.types.items) ids → AreDenied ids b.types.items types.items → IsConsistent (record b { types = types })
 consistent_denied b types ids kept inside d =
     let rs : List Record = map record_of types.items in
     let head = deny_first (length b.types.items) ids unknown kept.first.0 inside in
@@ -113,7 +113,7 @@ consistent_denied b types ids kept inside d =
     }
 
 -- the ids of a table are ids of the table with changes
-pub ids_changed : (t : Table) (c : Changes) (ids : List ℕ) → AreIds (length t.records) ids → AreIds (length (changed t c).records) ids
+pub ids_changed : (t : Table) (c : Changes) (ids : List ℕ) → AreTypeIds (length t.records) ids → AreTypeIds (length (changed t c).records) ids
 ids_changed t c ids inside =
     let front : List Record = put_all (each record_of c.types.items) t.records in
     ids_more (length t.records) (length (changed t c).records) ids (omega (arith, length-append front (map record_of c.new_types.items), length-put (each record_of c.types.items) t.records)) inside

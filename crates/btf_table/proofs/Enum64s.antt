@@ -5,7 +5,7 @@ use Rattle.std.proofs.lemmas.List.{take_all}
 use Rattle.btf_model.specs.Table.{Variant}
 use Rattle.btf_rewrite_model.specs.Made.{variants}
 use Rattle.btf_rewrite_model.specs.Rule.{variant_members}
-use Rattle.btf_plain.specs.Fallback.{variant_of}
+use Rattle.btf_plain.specs.Fallback.{fallback_variant}
 use Rattle.btf_plain.specs.Items.{enum64_words, member_words}
 use Rattle.btf_plain.specs.declared.items.BtfEnum64.{BtfEnum64}
 use Rattle.btf_plain.specs.declared.items.BtfMember.{BtfMember}
@@ -21,7 +21,7 @@ variants_of_words [] = refl
 variants_of_words (v ∷ vs) = ap (λ (rest : List Variant). variant v ∷ rest) (variants_of_words vs)
 
 -- after the last variant, all are retained
-pub kept_all : (kept : List Enum64VariantFallback) (vs : List BtfEnum64) (i : ℕ) → length vs ≤ i → map variant_of kept ≡ map variant (take i vs) → map variant_of kept ≡ variants (flat_map enum64_words vs)
+pub kept_all : (kept : List Enum64VariantFallback) (vs : List BtfEnum64) (i : ℕ) → length vs ≤ i → map fallback_variant kept ≡ map variant (take i vs) → map fallback_variant kept ≡ variants (flat_map enum64_words vs)
 kept_all kept vs i end is = is ∙ ap (map variant) (take_all i vs end) ∙ sym (variants_of_words vs)
 
 -- after the last variant, all have their member

@@ -16,7 +16,7 @@ use Rattle.btf_plain.specs.declared.linkage.FuncLinkage.TheVariants as linkage
 use Rattle.btf_plain.specs.declared.linkage.FuncLinkage.{FuncLinkage}
 use Rattle.btf_table.proofs.PassAsking.{asked_none, asked_more, asked_kept}
 use Rattle.btf_rewrite_model.specs.Made.{record_at, typedef, with_linkage}
-use Rattle.btf_rewrite_model.specs.Checks.{first_fault, is_read}
+use Rattle.btf_rewrite_model.specs.Checks.{first_fault, name_is_read}
 use Rattle.btf_model.specs.Text.{text_at}
 use Rattle.btf_rewrite_model.specs.Pass.{Pass, asks_below, has, name_of, is_builtin, func_asks, asks, asks_by, gets_filler, wants_member_type, free_id}
 use Rattle.btf_rewrite_model.specs.Rule.{becomes, known_func}
@@ -48,7 +48,7 @@ module _ (p : Pass) (id : ℕ) (b : BtfType) (there : IsType p.table id b) (kind
 
   -- its name can't be read
   pub func_unread : (refusal : Refusal) → Err refusal ≡ text_at p.table.strings r.name → (asks p id ≡ []) × (fault p id ≡ Some refusal)
-  func_unread refusal is = (asks_are (Err refusal) (sym is), fault_there p id b (Some kinds.Func) there kind ∙ ap (λ n. first_fault (is_read n ∷ [])) (func_name ∙ sym is))
+  func_unread refusal is = (asks_are (Err refusal) (sym is), fault_there p id b (Some kinds.Func) there kind ∙ ap (λ n. first_fault (name_is_read n ∷ [])) (func_name ∙ sym is))
 
   -- what it asks for after its name is read
   pub asks_func : (name : List ℕ) → Ok name ≡ text_at p.table.strings r.name → (has p features.Func && is_global r && not (is_builtin name)) ≡ false → asks p id ≡ features.Func ∷ []
@@ -63,7 +63,7 @@ module _ (p : Pass) (id : ℕ) (b : BtfType) (there : IsType p.table id b) (kind
         let unfilled : gets_filler p id ≡ false = no_filler p id (Some kinds.Func) (kind_there p.table id b there ∙ kind) refl in
         let wants : wants_member_type p id ≡ false = wants_none p id (Some kinds.Func) (kind_there p.table id b there ∙ kind) refl in
         record {
-          passed = fault_there p id b (Some kinds.Func) there kind ∙ ap (λ n. first_fault (is_read n ∷ [])) (func_name ∙ sym is_name);
+          passed = fault_there p id b (Some kinds.Func) there kind ∙ ap (λ n. first_fault (name_is_read n ∷ [])) (func_name ∙ sym is_name);
           record_is = is ∙ sym becomes_is;
           fallback_is = new_none ∙ sym (falls_back_there p id b (Some kinds.Func) there kind ∙ none);
           len = same_len p id r (record_of new) (ap (λ (x : Record). length x.tail) is ∙ tail) unfilled;
@@ -119,18 +119,18 @@ module _ (t : Table) (given : Given) (id : ℕ) (b : BtfType) (there : IsType t 
 -- ---- the name
 
 -- a checked name can be read
-pub read_name : (strings : List ℕ) (offset name : ℕ) → ◌≡◌ {A = Result ⊤ Refusal} (Ok tt) (checked (is_read (text_at strings offset)) tt) → offset ≡ name → (text : List ℕ) × (Ok text ≡ text_at strings name)
+pub read_name : (strings : List ℕ) (offset name : ℕ) → ◌≡◌ {A = Result ⊤ Refusal} (Ok tt) (checked (name_is_read (text_at strings offset)) tt) → offset ≡ name → (text : List ℕ) × (Ok text ≡ text_at strings name)
 read_name strings offset name passed is = let found = there (text_at strings offset) passed in (found.0, found.1 ∙ ap (text_at strings) is)
   where
-    there : (read : Result (List ℕ) Refusal) → ◌≡◌ {A = Result ⊤ Refusal} (Ok tt) (checked (is_read read) tt) → (text : List ℕ) × (Ok text ≡ read)
+    there : (read : Result (List ℕ) Refusal) → ◌≡◌ {A = Result ⊤ Refusal} (Ok tt) (checked (name_is_read read) tt) → (text : List ℕ) × (Ok text ≡ read)
     there (Ok text) passed = (text, refl)
     there (Err refusal) passed = absurd (none-some tt (sym (ap (result_ok {T = ⊤} {E = Refusal}) passed)))
 
 -- or why it can't be read
-pub unread_name : (strings : List ℕ) (offset name : ℕ) (refusal : Refusal) → ◌≡◌ {A = Result ⊤ Refusal} (Err refusal) (checked (is_read (text_at strings offset)) tt) → offset ≡ name → Err refusal ≡ text_at strings name
+pub unread_name : (strings : List ℕ) (offset name : ℕ) (refusal : Refusal) → ◌≡◌ {A = Result ⊤ Refusal} (Err refusal) (checked (name_is_read (text_at strings offset)) tt) → offset ≡ name → Err refusal ≡ text_at strings name
 unread_name strings offset name refusal refused is = there (text_at strings offset) refused ∙ ap (text_at strings) is
   where
-    there : (read : Result (List ℕ) Refusal) → ◌≡◌ {A = Result ⊤ Refusal} (Err refusal) (checked (is_read read) tt) → Err refusal ≡ read
+    there : (read : Result (List ℕ) Refusal) → ◌≡◌ {A = Result ⊤ Refusal} (Err refusal) (checked (name_is_read read) tt) → Err refusal ≡ read
     there (Ok text) refused = absurd (none-some tt (ap (result_ok {T = ⊤} {E = Refusal}) refused))
     there (Err other) refused = ap (λ (f : Refusal). Err f) (same_Some refusal other (ap (result_err {T = ⊤} {E = Refusal}) refused))
 

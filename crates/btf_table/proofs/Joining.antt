@@ -17,7 +17,7 @@ use Rattle.btf_records.specs.declared.btf_type.BtfType.{BtfType}
 use Rattle.btf_table.specs.declared.table.Btf.TheInside.{Inside}
 use Rattle.btf_table.specs.declared.table.changes.Changes.{Changes}
 use Rattle.btf_table.specs.Btf.{table_of, IsConsistent}
-use Rattle.btf_table.specs.Changes.{AreOf, AreInside, changed, put_all, each}
+use Rattle.btf_table.specs.Changes.{AreChangesOf, AreInside, changed, put_all, each}
 use Rattle.btf_table.specs.Denied.{AllHaveKinds}
 use Rattle.btf_table.specs.Joined.{ExceedsLimit, IsWithinLimit, followed}
 
@@ -127,7 +127,7 @@ module _ (t u : Table) (own : Inside) (c : Changes) (view : table_of own ≡ u) 
         fallbacks = put_all (each fallback_of (none i)) t.fallbacks ++ fallbacks i;
       }
 
-  pub are_of : IsConsistent own → HaveKinds t → c.type_len ≡ length (type_bytes (followed t u)) → IsWithinLimit (followed t u) → AreOf t c
+  pub are_of : IsConsistent own → HaveKinds t → c.type_len ≡ length (type_bytes (followed t u)) → IsWithinLimit (followed t u) → AreChangesOf t c
   are_of h kinds len fit = record {
     ids = subst (λ (cs : List (ℕ × BtfType)). AreInside (length t.records) cs) (sym none) tt;
     strings = omega (arith, fit.strings, length-append t.strings u.strings, ap length more_strings);

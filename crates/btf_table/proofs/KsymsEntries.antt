@@ -11,37 +11,37 @@ use Rattle.btf_model.specs.Table.{Table}
 use Rattle.btf_rewrite_model.specs.Made.{Entry, entries, record_at, kind_at}
 use Rattle.btf_rewrite_model.specs.Checks.{Check, first_fault}
 use Rattle.btf_rewrite_model.specs.Ksyms.{is_func, ksyms_entry_checks}
-use Rattle.btf_plain.specs.Items.{entry_words}
+use Rattle.btf_plain.specs.Items.{code_entry_words}
 use Rattle.btf_plain.specs.declared.items.DataSecEntry.{DataSecEntry}
-use Rattle.btf_table.specs.KsymsStep.{entry, has, is_this, prototype_of, HasSymbols, FindsSymbols}
+use Rattle.btf_table.specs.KsymsStep.{model_entry, has_id, is_this, prototype_of, HasSymbols, FindsSymbols}
 use Rattle.btf_table.specs.declared.sanitize.ksyms.Symbols.{Symbols}
 use Rattle.btf_table.proofs.Checks.{fault_after, fault_before}
 
 -- the words of entries are read as these
-pub entries_of_words : (es : List DataSecEntry) → entries (flat_map entry_words es) ≡ map entry es
+pub entries_of_words : (es : List DataSecEntry) → entries (flat_map code_entry_words es) ≡ map model_entry es
 entries_of_words [] = refl
-entries_of_words (e ∷ es) = ap (λ (rest : List Entry). entry e ∷ rest) (entries_of_words es)
+entries_of_words (e ∷ es) = ap (λ (rest : List Entry). model_entry e ∷ rest) (entries_of_words es)
 
 -- one more entry passes its tests
-pub one_more_passes : (t : Table) (placeholder : Option ℕ) (es : List DataSecEntry) (e : DataSecEntry) → first_fault (flat_map (ksyms_entry_checks t placeholder) (map entry es)) ≡ None
-    → first_fault (ksyms_entry_checks t placeholder (entry e)) ≡ None → first_fault (flat_map (ksyms_entry_checks t placeholder) (map entry (es ++ e ∷ []))) ≡ None
+pub one_more_passes : (t : Table) (placeholder : Option ℕ) (es : List DataSecEntry) (e : DataSecEntry) → first_fault (flat_map (ksyms_entry_checks t placeholder) (map model_entry es)) ≡ None
+    → first_fault (ksyms_entry_checks t placeholder (model_entry e)) ≡ None → first_fault (flat_map (ksyms_entry_checks t placeholder) (map model_entry (es ++ e ∷ []))) ≡ None
 one_more_passes t placeholder es e before passed =
     let checks : Entry → List Check = ksyms_entry_checks t placeholder in
-    ap (λ (xs : List Entry). first_fault (flat_map checks xs)) (map-append entry es (e ∷ [])) ∙ ap first_fault (flat_map-append checks (map entry es) (entry e ∷ []))
-    ∙ fault_after (flat_map checks (map entry es)) (checks (entry e) ++ []) before ∙ ap first_fault (append-nil (checks (entry e))) ∙ passed
+    ap (λ (xs : List Entry). first_fault (flat_map checks xs)) (map-append model_entry es (e ∷ [])) ∙ ap first_fault (flat_map-append checks (map model_entry es) (model_entry e ∷ []))
+    ∙ fault_after (flat_map checks (map model_entry es)) (checks (model_entry e) ++ []) before ∙ ap first_fault (append-nil (checks (model_entry e))) ∙ passed
 
 -- the first entry that does not pass counts
-pub one_faults : (t : Table) (placeholder : Option ℕ) (es : List DataSecEntry) (e : DataSecEntry) (rest : List DataSecEntry) (refusal : Refusal) → first_fault (flat_map (ksyms_entry_checks t placeholder) (map entry es)) ≡ None
-    → first_fault (ksyms_entry_checks t placeholder (entry e)) ≡ Some refusal → first_fault (flat_map (ksyms_entry_checks t placeholder) (map entry (es ++ e ∷ rest))) ≡ Some refusal
+pub one_faults : (t : Table) (placeholder : Option ℕ) (es : List DataSecEntry) (e : DataSecEntry) (rest : List DataSecEntry) (refusal : Refusal) → first_fault (flat_map (ksyms_entry_checks t placeholder) (map model_entry es)) ≡ None
+    → first_fault (ksyms_entry_checks t placeholder (model_entry e)) ≡ Some refusal → first_fault (flat_map (ksyms_entry_checks t placeholder) (map model_entry (es ++ e ∷ rest))) ≡ Some refusal
 one_faults t placeholder es e rest refusal before faults =
     let checks : Entry → List Check = ksyms_entry_checks t placeholder in
-    ap (λ (xs : List Entry). first_fault (flat_map checks xs)) (map-append entry es (e ∷ rest)) ∙ ap first_fault (flat_map-append checks (map entry es) (map entry (e ∷ rest)))
-    ∙ fault_after (flat_map checks (map entry es)) (checks (entry e) ++ flat_map checks (map entry rest)) before ∙ fault_before (checks (entry e)) (flat_map checks (map entry rest)) refusal faults
+    ap (λ (xs : List Entry). first_fault (flat_map checks xs)) (map-append model_entry es (e ∷ rest)) ∙ ap first_fault (flat_map-append checks (map model_entry es) (map model_entry (e ∷ rest)))
+    ∙ fault_after (flat_map checks (map model_entry es)) (checks (model_entry e) ++ flat_map checks (map model_entry rest)) before ∙ fault_before (checks (model_entry e)) (flat_map checks (map model_entry rest)) refusal faults
 
 -- a test of one more entry
-pub any_more : (test : Entry → Bool) (es : List DataSecEntry) (e : DataSecEntry) → list_any test (map entry (es ++ e ∷ [])) ≡ cond (test (entry e)) true (list_any test (map entry es))
+pub any_more : (test : Entry → Bool) (es : List DataSecEntry) (e : DataSecEntry) → list_any test (map model_entry (es ++ e ∷ [])) ≡ cond (test (model_entry e)) true (list_any test (map model_entry es))
 any_more test es e =
-    ap (list_any test) (map-append entry es (e ∷ [])) ∙ list_any-append test (map entry es) (entry e ∷ []) ∙ either (list_any test (map entry es)) (test (entry e))
+    ap (list_any test) (map-append model_entry es (e ∷ [])) ∙ list_any-append test (map model_entry es) (model_entry e ∷ []) ∙ either (list_any test (map model_entry es)) (test (model_entry e))
   where
     either : (a b : Bool) → (a || (b || false)) ≡ cond b true a
     either true true = refl
@@ -62,47 +62,47 @@ up_to es i lt =
     let more : i + 1 ≡ suc i = omega arith in
     ap (λ (n : ℕ). take n es) more ∙ take-suc es i zero_entry lt
 
-pub passes_up_to : (t : Table) (placeholder : Option ℕ) (es : List DataSecEntry) (i : ℕ) → i < length es → first_fault (flat_map (ksyms_entry_checks t placeholder) (map entry (take i es))) ≡ None
-    → first_fault (ksyms_entry_checks t placeholder (entry (at es i))) ≡ None → first_fault (flat_map (ksyms_entry_checks t placeholder) (map entry (take (i + 1) es))) ≡ None
+pub passes_up_to : (t : Table) (placeholder : Option ℕ) (es : List DataSecEntry) (i : ℕ) → i < length es → first_fault (flat_map (ksyms_entry_checks t placeholder) (map model_entry (take i es))) ≡ None
+    → first_fault (ksyms_entry_checks t placeholder (model_entry (at es i))) ≡ None → first_fault (flat_map (ksyms_entry_checks t placeholder) (map model_entry (take (i + 1) es))) ≡ None
 passes_up_to t placeholder es i lt before passed =
-    ap (λ (xs : List DataSecEntry). first_fault (flat_map (ksyms_entry_checks t placeholder) (map entry xs))) (up_to es i lt) ∙ one_more_passes t placeholder (take i es) (at es i) before passed
+    ap (λ (xs : List DataSecEntry). first_fault (flat_map (ksyms_entry_checks t placeholder) (map model_entry xs))) (up_to es i lt) ∙ one_more_passes t placeholder (take i es) (at es i) before passed
 
-pub faults_at : (t : Table) (placeholder : Option ℕ) (es : List DataSecEntry) (i : ℕ) (refusal : Refusal) → i < length es → first_fault (flat_map (ksyms_entry_checks t placeholder) (map entry (take i es))) ≡ None
-    → first_fault (ksyms_entry_checks t placeholder (entry (at es i))) ≡ Some refusal → first_fault (flat_map (ksyms_entry_checks t placeholder) (map entry es)) ≡ Some refusal
+pub faults_at : (t : Table) (placeholder : Option ℕ) (es : List DataSecEntry) (i : ℕ) (refusal : Refusal) → i < length es → first_fault (flat_map (ksyms_entry_checks t placeholder) (map model_entry (take i es))) ≡ None
+    → first_fault (ksyms_entry_checks t placeholder (model_entry (at es i))) ≡ Some refusal → first_fault (flat_map (ksyms_entry_checks t placeholder) (map model_entry es)) ≡ Some refusal
 faults_at t placeholder es i refusal lt before faults =
-    ap (λ (xs : List DataSecEntry). first_fault (flat_map (ksyms_entry_checks t placeholder) (map entry xs))) (sym (take-append-drop i es) ∙ ap (λ (xs : List DataSecEntry). take i es ++ xs) (drop-cons es i zero_entry lt))
+    ap (λ (xs : List DataSecEntry). first_fault (flat_map (ksyms_entry_checks t placeholder) (map model_entry xs))) (sym (take-append-drop i es) ∙ ap (λ (xs : List DataSecEntry). take i es ++ xs) (drop-cons es i zero_entry lt))
     ∙ one_faults t placeholder (take i es) (at es i) (drop (suc i) es) refusal before faults
 
-any_up_to : (test : Entry → Bool) (es : List DataSecEntry) (i : ℕ) → i < length es → list_any test (map entry (take (i + 1) es)) ≡ cond (test (entry (at es i))) true (list_any test (map entry (take i es)))
-any_up_to test es i lt = ap (λ (xs : List DataSecEntry). list_any test (map entry xs)) (up_to es i lt) ∙ any_more test (take i es) (at es i)
+any_up_to : (test : Entry → Bool) (es : List DataSecEntry) (i : ℕ) → i < length es → list_any test (map model_entry (take (i + 1) es)) ≡ cond (test (model_entry (at es i))) true (list_any test (map model_entry (take i es)))
+any_up_to test es i lt = ap (λ (xs : List DataSecEntry). list_any test (map model_entry xs)) (up_to es i lt) ∙ any_more test (take i es) (at es i)
 
 -- the refusal of an entry that does not pass is what the search returns
-pub fault_found : (t : Table) (placeholder : Option ℕ) (tail : List ℕ) (es : List DataSecEntry) (i : ℕ) (refusal : Refusal) → tail ≡ flat_map entry_words es → i < length es
-    → first_fault (flat_map (ksyms_entry_checks t placeholder) (map entry (take i es))) ≡ None → first_fault (ksyms_entry_checks t placeholder (entry (at es i))) ≡ Some refusal → FindsSymbols t placeholder (entries tail) (Err refusal)
+pub fault_found : (t : Table) (placeholder : Option ℕ) (tail : List ℕ) (es : List DataSecEntry) (i : ℕ) (refusal : Refusal) → tail ≡ flat_map code_entry_words es → i < length es
+    → first_fault (flat_map (ksyms_entry_checks t placeholder) (map model_entry (take i es))) ≡ None → first_fault (ksyms_entry_checks t placeholder (model_entry (at es i))) ≡ Some refusal → FindsSymbols t placeholder (entries tail) (Err refusal)
 fault_found t placeholder tail es i refusal words lt before faults =
     subst (λ (xs : List Entry). FindsSymbols t placeholder xs (Err refusal)) (sym (entries_of_words es) ∙ ap entries (sym words)) (faults_at t placeholder es i refusal lt before faults)
 
 -- after the last entry, all have passed
-pub found_symbols : (t : Table) (placeholder : Option ℕ) (tail : List ℕ) (es : List DataSecEntry) (i : ℕ) (symbols : Symbols) → tail ≡ flat_map entry_words es → length es ≤ i
-    → (first_fault (flat_map (ksyms_entry_checks t placeholder) (map entry (take i es))) ≡ None) × HasSymbols t (map entry (take i es)) symbols → FindsSymbols t placeholder (entries tail) (Ok symbols)
+pub found_symbols : (t : Table) (placeholder : Option ℕ) (tail : List ℕ) (es : List DataSecEntry) (i : ℕ) (symbols : Symbols) → tail ≡ flat_map code_entry_words es → length es ≤ i
+    → (first_fault (flat_map (ksyms_entry_checks t placeholder) (map model_entry (take i es))) ≡ None) × HasSymbols t (map model_entry (take i es)) symbols → FindsSymbols t placeholder (entries tail) (Ok symbols)
 found_symbols t placeholder tail es i symbols words end found =
-    subst (λ (xs : List Entry). FindsSymbols t placeholder xs (Ok symbols)) (ap (map entry) (take_all i es end) ∙ sym (entries_of_words es) ∙ ap entries (sym words)) found
+    subst (λ (xs : List Entry). FindsSymbols t placeholder xs (Ok symbols)) (ap (map model_entry) (take_all i es end) ∙ sym (entries_of_words es) ∙ ap entries (sym words)) found
 
 this_or_not : (f : Bool) (prototype id : ℕ) → is_this (if f then Some prototype else None) id ≡ (f && (prototype == id))
 this_or_not true prototype id = refl
 this_or_not false prototype id = refl
 
 -- one more entry adds its id and its prototype
-pub symbols_up_to : (t : Table) (es : List DataSecEntry) (i : ℕ) (old new : Symbols) (prototype : Option ℕ) → i < length es → HasSymbols t (map entry (take i es)) old
-    → prototype ≡ prototype_of t (at es i).btf_type → ((q : ℕ) → has new.ids q ≡ cond ((at es i).btf_type == q) true (has old.ids q)) → ((q : ℕ) → has new.prototypes q ≡ cond (is_this prototype q) true (has old.prototypes q))
-    → HasSymbols t (map entry (take (i + 1) es)) new
+pub symbols_up_to : (t : Table) (es : List DataSecEntry) (i : ℕ) (old new : Symbols) (prototype : Option ℕ) → i < length es → HasSymbols t (map model_entry (take i es)) old
+    → prototype ≡ prototype_of t (at es i).btf_type → ((q : ℕ) → has_id new.ids q ≡ cond ((at es i).btf_type == q) true (has_id old.ids q)) → ((q : ℕ) → has_id new.prototypes q ≡ cond (is_this prototype q) true (has_id old.prototypes q))
+    → HasSymbols t (map model_entry (take (i + 1) es)) new
 symbols_up_to t es i old new prototype lt before is ids prototypes =
     let id : ℕ = (at es i).btf_type in
     record {
       ids = λ q. ids q ∙ ap (λ (b : Bool). cond (id == q) true b) (before.ids q) ∙ sym (any_up_to (λ (e : Entry). e.type == q) es i lt);
       prototypes = λ q.
           prototypes q ∙ ap (λ (b : Bool). cond (is_this prototype q) true b) (before.prototypes q)
-          ∙ ap (λ (b : Bool). cond b true (list_any (λ (e : Entry). is_func (kind_at t e.type) && ((record_at t e.type).third == q)) (map entry (take i es))))
+          ∙ ap (λ (b : Bool). cond b true (list_any (λ (e : Entry). is_func (kind_at t e.type) && ((record_at t e.type).third == q)) (map model_entry (take i es))))
           (ap (λ (o : Option ℕ). is_this o q) is ∙ this_or_not (is_func (kind_at t id)) (record_at t id).third q)
           ∙ sym (any_up_to (λ (e : Entry). is_func (kind_at t e.type) && ((record_at t e.type).third == q)) es i lt);
     }

@@ -25,26 +25,26 @@ use Rattle.btf_table.specs.Denied.{AllHaveKinds}
 use Rattle.btf_table.proofs.KnownKinds.{one_more_kind}
 use Rattle.btf_rewrite_model.specs.Made as model
 use Rattle.btf_rewrite_model.specs.Made.{Entry, entries, record_at, c_int}
-use Rattle.btf_rewrite_model.specs.Ksyms.{stepped, symbols, laid_out, appends_int, each_stepped, ksyms_table, ksyms_fault, int_text, placeholder_checks, data_sec_checks}
+use Rattle.btf_rewrite_model.specs.Ksyms.{stepped, ksyms_entries, laid_out, appends_int, each_stepped, ksyms_table, ksyms_fault, int_text, placeholder_checks, data_sec_checks}
 use Rattle.btf_rewrite_model.specs.declared.ksyms_ids.KsymsIds.{KsymsIds}
 use Rattle.btf_records.specs.BtfType.{record_of, fallback_of}
 use Rattle.btf_records.specs.declared.btf_type.BtfType.{BtfType}
 use Rattle.btf_table.specs.declared.table.changes.Changes.{Changes}
-use Rattle.btf_table.specs.Changes.{put_all, each, AreInside, AreOf, changed}
-use Rattle.btf_table.specs.KsymsStep.{becomes, laid_out_anew, shape, IsLike, AreStepped}
+use Rattle.btf_table.specs.Changes.{put_all, each, AreInside, AreChangesOf, changed}
+use Rattle.btf_table.specs.KsymsStep.{step_record, laid_out_anew, kind_and_len, IsLike, AreStepped}
 use Rattle.btf_table.proofs.Put.{length-put, put_kept, put_new, inside_more, inside_next}
 
 -- the symbols are the entries of the DATASEC
-symbols_are : (t : Table) (ids : KsymsIds) (id : ℕ) (r : Record) → slice_get t.records id ≡ Some r → id ≡ ids.datasec_id → symbols t ids ≡ entries r.tail
+symbols_are : (t : Table) (ids : KsymsIds) (id : ℕ) (r : Record) → slice_get t.records id ≡ Some r → id ≡ ids.datasec_id → ksyms_entries t ids ≡ entries r.tail
 symbols_are t ids id r at same =
     ap (λ (n : ℕ). entries (record_at t n).tail) (sym same) ∙ ap (λ (o : Option Record). entries (unwrap_or o unknown).tail) at
 
 -- the DATASEC of the symbols is laid out
-pub section_becomes : (t : Table) (ids : KsymsIds) (id : ℕ) (r : Record) → kind_of r.info ≡ Some kinds.DataSec → slice_get t.records id ≡ Some r → id ≡ ids.datasec_id → becomes t ids id r ≡ laid_out_anew t ids.placeholder_id r
+pub section_becomes : (t : Table) (ids : KsymsIds) (id : ℕ) (r : Record) → kind_of r.info ≡ Some kinds.DataSec → slice_get t.records id ≡ Some r → id ≡ ids.datasec_id → step_record t ids id r ≡ laid_out_anew t ids.placeholder_id r
 section_becomes t ids id r kind at same =
     let made : List Entry → Record = λ es. record r { third = 4 * length es; tail = flat_map model.entry_words (laid_out t ids.placeholder_id 0 es) } in
     let here : (id == ids.datasec_id) ≡ true = eq-eqb id ids.datasec_id same in
-    ap (λ (k : Option Kind). stepped t ids id k r) kind ∙ ap (λ (b : Bool). if b then made (symbols t ids) else r) here ∙ ap made (symbols_are t ids id r at same)
+    ap (λ (k : Option Kind). stepped t ids id k r) kind ∙ ap (λ (b : Bool). if b then made (ksyms_entries t ids) else r) here ∙ ap made (symbols_are t ids id r at same)
 
 -- ---- all ids
 
@@ -61,10 +61,10 @@ module _ (t : Table) (ids : KsymsIds) (ts : List BtfType) (records : map record_
   record_there i b lt at = ap (λ rs. slice_get rs i) (sym records) ∙ slice_get-map record_of ts i ∙ ap (option_map record_of) (slice_get_read ts (length ts) i b refl lt at)
 
   stepped_there : (i : ℕ) (b : BtfType) → i < length ts → b ≡ get_or ts i b
-      → map (λ id. becomes t ids id (record_at t id)) (range_with_len 0 (i + 1)) ≡ map (λ id. becomes t ids id (record_at t id)) (range_with_len 0 i) ++ becomes t ids i (record_of b) ∷ []
+      → map (λ id. step_record t ids id (record_at t id)) (range_with_len 0 (i + 1)) ≡ map (λ id. step_record t ids id (record_at t id)) (range_with_len 0 i) ++ step_record t ids i (record_of b) ∷ []
   stepped_there i b lt at =
       let here : record_at t i ≡ record_of b = ap (λ (o : Option Record). unwrap_or o unknown) (record_there i b lt at) in
-      map-range_with_len_more (λ id. becomes t ids id (record_at t id)) 0 i i (omega arith) ∙ ap (λ r. map (λ id. becomes t ids id (record_at t id)) (range_with_len 0 i) ++ becomes t ids i r ∷ []) here
+      map-range_with_len_more (λ id. step_record t ids id (record_at t id)) 0 i i (omega arith) ∙ ap (λ r. map (λ id. step_record t ids id (record_at t id)) (range_with_len 0 i) ++ step_record t ids i r ∷ []) here
 
   many : (i : ℕ) → i < length ts → length (take i t.records) ≡ i
   many i lt = omega (arith, length-take i t.records, ap length (sym records), length-map ts record_of, lt)
@@ -76,24 +76,24 @@ module _ (t : Table) (ids : KsymsIds) (ts : List BtfType) (records : map record_
   inside_of i xs cs is inside = subst (λ (n : ℕ). AreInside n cs) (sym is) inside
 
   -- one more type is unchanged
-  pub kept_next : (i : ℕ) (cs : List (ℕ × BtfType)) (b : BtfType) → i < length ts → b ≡ get_or ts i b → AreStepped t ids i cs → record_of b ≡ becomes t ids i (record_of b) → AreStepped t ids (i + 1) cs
+  pub kept_next : (i : ℕ) (cs : List (ℕ × BtfType)) (b : BtfType) → i < length ts → b ≡ get_or ts i b → AreStepped t ids i cs → record_of b ≡ step_record t ids i (record_of b) → AreStepped t ids (i + 1) cs
   kept_next i cs b lt at before stays =
       let rs : List Record = put_all (each record_of cs) (take i t.records) in
       let put : put_all (each record_of cs) (take (i + 1) t.records) ≡ rs ++ record_of b ∷ [] =
       ap (put_all (each record_of cs)) (take_next record_of ts t.records i b records lt at) ∙ put_kept record_of cs (take i t.records) (record_of b) (inside_of i (take i t.records) cs (many i lt) before.inside) in
       record {
         inside = inside_more i (i + 1) cs (omega arith) before.inside;
-        records = put ∙ ap (λ xs. xs ++ record_of b ∷ []) before.records ∙ ap (λ r. map (λ id. becomes t ids id (record_at t id)) (range_with_len 0 i) ++ r ∷ []) stays ∙ sym (stepped_there i b lt at);
+        records = put ∙ ap (λ xs. xs ++ record_of b ∷ []) before.records ∙ ap (λ r. map (λ id. step_record t ids id (record_at t id)) (range_with_len 0 i) ++ r ∷ []) stays ∙ sym (stepped_there i b lt at);
         fallbacks =
             ap (put_all (each fallback_of cs)) (take_next fallback_of ts t.fallbacks i b fallbacks lt at)
             ∙ put_kept fallback_of cs (take i t.fallbacks) (fallback_of b) (inside_of i (take i t.fallbacks) cs (many_fallbacks i lt) before.inside)
             ∙ ap (λ xs. xs ++ fallback_of b ∷ []) before.fallbacks ∙ sym (take_next fallback_of ts t.fallbacks i b fallbacks lt at);
-        shapes = ap (map shape) put ∙ map-append shape rs (record_of b ∷ []) ∙ ap (λ xs. xs ++ shape (record_of b) ∷ []) before.shapes ∙ sym (map-append shape (take i t.records) (record_of b ∷ []))
-            ∙ ap (map shape) (sym (take_next record_of ts t.records i b records lt at));
+        shapes = ap (map kind_and_len) put ∙ map-append kind_and_len rs (record_of b ∷ []) ∙ ap (λ xs. xs ++ kind_and_len (record_of b) ∷ []) before.shapes ∙ sym (map-append kind_and_len (take i t.records) (record_of b ∷ []))
+            ∙ ap (map kind_and_len) (sym (take_next record_of ts t.records i b records lt at));
       }
 
   -- one more type is changed
-  pub changed_next : (i : ℕ) (cs : List (ℕ × BtfType)) (b new : BtfType) → 0 < i → i < length ts → b ≡ get_or ts i b → AreStepped t ids i cs → record_of new ≡ becomes t ids i (record_of b) → IsLike b new
+  pub changed_next : (i : ℕ) (cs : List (ℕ × BtfType)) (b new : BtfType) → 0 < i → i < length ts → b ≡ get_or ts i b → AreStepped t ids i cs → record_of new ≡ step_record t ids i (record_of b) → IsLike b new
       → AreStepped t ids (i + 1) (cs ++ (i, new) ∷ [])
   changed_next i cs b new low lt at before is like =
       let ds : List (ℕ × BtfType) = cs ++ (i, new) ∷ [] in
@@ -103,21 +103,21 @@ module _ (t : Table) (ids : KsymsIds) (ts : List BtfType) (records : map record_
       ∙ put_new record_of cs (take i t.records) (record_of b) i new (inside_of i (take i t.records) cs (many i lt) before.inside) (many i lt) in
       record {
         inside = inside_next (i + 1) cs i new (inside_more i (i + 1) cs (omega arith) before.inside) low (omega arith);
-        records = put ∙ ap (λ xs. xs ++ record_of new ∷ []) before.records ∙ ap (λ r. map (λ id. becomes t ids id (record_at t id)) (range_with_len 0 i) ++ r ∷ []) is ∙ sym (stepped_there i b lt at);
+        records = put ∙ ap (λ xs. xs ++ record_of new ∷ []) before.records ∙ ap (λ r. map (λ id. step_record t ids id (record_at t id)) (range_with_len 0 i) ++ r ∷ []) is ∙ sym (stepped_there i b lt at);
         fallbacks =
             ap (put_all (each fallback_of ds)) (take_next fallback_of ts t.fallbacks i b fallbacks lt at)
             ∙ put_new fallback_of cs (take i t.fallbacks) (fallback_of b) i new (inside_of i (take i t.fallbacks) cs (many_fallbacks i lt) before.inside) (many_fallbacks i lt)
             ∙ ap (λ xs. xs ++ fallback_of new ∷ []) before.fallbacks ∙ ap (λ f. take i t.fallbacks ++ f ∷ []) like.fallback ∙ sym (take_next fallback_of ts t.fallbacks i b fallbacks lt at);
-        shapes = ap (map shape) put ∙ map-append shape rs (record_of new ∷ []) ∙ ap (λ xs. xs ++ shape (record_of new) ∷ []) before.shapes
-            ∙ ap (λ s. map shape (take i t.records) ++ s ∷ []) (ap (λ k. (k, length (record_of new).tail)) like.kind ∙ ap (λ n. (kind_of (record_of b).info, n)) like.length)
-            ∙ sym (map-append shape (take i t.records) (record_of b ∷ [])) ∙ ap (map shape) (sym (take_next record_of ts t.records i b records lt at));
+        shapes = ap (map kind_and_len) put ∙ map-append kind_and_len rs (record_of new ∷ []) ∙ ap (λ xs. xs ++ kind_and_len (record_of new) ∷ []) before.shapes
+            ∙ ap (λ s. map kind_and_len (take i t.records) ++ s ∷ []) (ap (λ k. (k, length (record_of new).tail)) like.kind ∙ ap (λ n. (kind_of (record_of b).info, n)) like.length)
+            ∙ sym (map-append kind_and_len (take i t.records) (record_of b ∷ [])) ∙ ap (map kind_and_len) (sym (take_next record_of ts t.records i b records lt at));
       }
 
 -- id 0 is Unknown, which does not change
 pub stepped_first : (t : Table) (ids : KsymsIds) (rs : List Record) → t.records ≡ unknown ∷ rs → AreStepped t ids 1 []
 stepped_first t ids rs first = record {
   inside = tt;
-  records = ap (take 1) first ∙ ap (λ (xs : List Record). becomes t ids 0 (unwrap_or (slice_get xs 0) unknown) ∷ []) (sym first);
+  records = ap (take 1) first ∙ ap (λ (xs : List Record). step_record t ids 0 (unwrap_or (slice_get xs 0) unknown) ∷ []) (sym first);
   fallbacks = refl;
   shapes = refl;
 }
@@ -133,25 +133,25 @@ stepped_all t ids ts i cs records low high stepped =
 abbrev sizes : List (Option Kind × ℕ) → ℕ
 sizes shapes = sum_by (λ (s : Option Kind × ℕ). 12 + 4 * s.1) shapes
 
-spelled_len : (order : Endianness) (rs : List Record) → length (flat_map (spell order) rs) ≡ sizes (map shape rs)
+spelled_len : (order : Endianness) (rs : List Record) → length (flat_map (spell order) rs) ≡ sizes (map kind_and_len rs)
 spelled_len order [] = refl
 spelled_len order (r ∷ rs) =
-    let here : sizes (map shape (r ∷ rs)) ≡ 12 + 4 * length r.tail + sizes (map shape rs) = sum_by-cons (λ (s : Option Kind × ℕ). 12 + 4 * s.1) (shape r) (map shape rs) in
+    let here : sizes (map kind_and_len (r ∷ rs)) ≡ 12 + 4 * length r.tail + sizes (map kind_and_len rs) = sum_by-cons (λ (s : Option Kind × ℕ). 12 + 4 * s.1) (kind_and_len r) (map kind_and_len rs) in
     omega (arith, here, length-append (spell order r) (flat_map (spell order) rs), length-spell order r, spelled_len order rs)
 
 -- records of the same shapes have the same length
-same_len : (order : Endianness) (rs qs : List Record) → map shape rs ≡ map shape qs → length (flat_map (spell order) (drop 1 rs)) ≡ length (flat_map (spell order) (drop 1 qs))
-same_len order rs qs same = spelled_len order (drop 1 rs) ∙ ap sizes (sym (drop-map shape 1 rs) ∙ ap (drop 1) same ∙ drop-map shape 1 qs) ∙ sym (spelled_len order (drop 1 qs))
+same_len : (order : Endianness) (rs qs : List Record) → map kind_and_len rs ≡ map kind_and_len qs → length (flat_map (spell order) (drop 1 rs)) ≡ length (flat_map (spell order) (drop 1 qs))
+same_len order rs qs same = spelled_len order (drop 1 rs) ∙ ap sizes (sym (drop-map kind_and_len 1 rs) ∙ ap (drop 1) same ∙ drop-map kind_and_len 1 qs) ∙ sym (spelled_len order (drop 1 qs))
 
 -- and have kinds
-kinds_of_shapes : (rs qs : List Record) → map shape rs ≡ map shape qs → AllHaveKinds qs → AllHaveKinds rs
+kinds_of_shapes : (rs qs : List Record) → map kind_and_len rs ≡ map kind_and_len qs → AllHaveKinds qs → AllHaveKinds rs
 kinds_of_shapes rs qs same kinds id r at =
-    let long : id < length qs = omega (arith, slice_get_within rs id r at, ap length same, length-map rs shape, length-map qs shape) in
+    let long : id < length qs = omega (arith, slice_get_within rs id r at, ap length same, length-map rs kind_and_len, length-map qs kind_and_len) in
     let q : Record = get_or qs id unknown in
     let there : slice_get qs id ≡ Some q = slice_get-get_or qs id unknown long in
-    let found : Some (shape r) ≡ Some (shape q) = ap (option_map shape) (sym at) ∙ sym (slice_get-map shape rs id) ∙ ap (λ xs. slice_get xs id) same ∙ slice_get-map shape qs id ∙ ap (option_map shape) there in
+    let found : Some (kind_and_len r) ≡ Some (kind_and_len q) = ap (option_map kind_and_len) (sym at) ∙ sym (slice_get-map kind_and_len rs id) ∙ ap (λ xs. slice_get xs id) same ∙ slice_get-map kind_and_len qs id ∙ ap (option_map kind_and_len) there in
     let k : (k : Kind) × (kind_of q.info ≡ Some k) = kinds id q there in
-    (k.0, ap (λ (s : Option Kind × ℕ). s.0) (same_Some (shape r) (shape q) found) ∙ k.1)
+    (k.0, ap (λ (s : Option Kind × ℕ). s.0) (same_Some (kind_and_len r) (kind_and_len q) found) ∙ k.1)
 
 module _ (t : Table) (ids : KsymsIds) (c : Changes) (stepped : AreStepped t ids (length t.records) c.types.items) (records_len : length t.fallbacks ≡ length t.records) (have : HaveKinds t)
     (strings_limit : length t.strings ≤ section_limit) (types_limit : length (type_bytes t) ≤ section_limit) where
@@ -169,14 +169,14 @@ module _ (t : Table) (ids : KsymsIds) (c : Changes) (stepped : AreStepped t ids 
       let all : take (length t.records) t.fallbacks ≡ t.fallbacks = take_all (length t.records) t.fallbacks (omega (arith, records_len)) in
       ap (put_all (each fallback_of c.types.items)) (sym all) ∙ stepped.fallbacks ∙ all
 
-  shapes_are : map shape rs ≡ map shape t.records
-  shapes_are = ap (λ xs. map shape (put_all (each record_of c.types.items) xs)) (sym all_records) ∙ stepped.shapes ∙ ap (map shape) all_records
+  shapes_are : map kind_and_len rs ≡ map kind_and_len t.records
+  shapes_are = ap (λ xs. map kind_and_len (put_all (each record_of c.types.items) xs)) (sym all_records) ∙ stepped.shapes ∙ ap (map kind_and_len) all_records
 
   rs_kinds : AllHaveKinds rs
   rs_kinds = kinds_of_shapes rs t.records shapes_are have
 
   -- without the INT
-  pub stays_as_stepped : appends_int t ids.placeholder_id ≡ false → c.new_strings.items ≡ [] → c.new_types.items ≡ [] → c.type_len ≡ length (type_bytes t) → AreOf t c × (changed t c ≡ ksyms_table t ids)
+  pub stays_as_stepped : appends_int t ids.placeholder_id ≡ false → c.new_strings.items ≡ [] → c.new_types.items ≡ [] → c.type_len ≡ length (type_bytes t) → AreChangesOf t c × (changed t c ≡ ksyms_table t ids)
   stays_as_stepped none strings types len =
       let is_rs : rs ++ map record_of c.new_types.items ≡ rs = ap (λ xs. rs ++ map record_of xs) types ∙ append-nil rs in
       let table : changed t c ≡ each_stepped t ids =
@@ -194,7 +194,7 @@ module _ (t : Table) (ids : KsymsIds) (c : Changes) (stepped : AreStepped t ids 
 
   -- with the INT
   pub grows_by_int : (rest : List Record) (int : BtfType) → t.records ≡ unknown ∷ rest → appends_int t ids.placeholder_id ≡ true → c.new_strings.items ≡ int_text ++ 0 ∷ [] → record_of int ≡ c_int (length t.strings) → fallback_of int ≡ None
-      → c.new_types.items ≡ int ∷ [] → c.type_len ≡ length (type_bytes t) + 16 → length t.strings + 4 ≤ section_limit → length (type_bytes t) + 16 ≤ section_limit → AreOf t c × (changed t c ≡ ksyms_table t ids)
+      → c.new_types.items ≡ int ∷ [] → c.type_len ≡ length (type_bytes t) + 16 → length t.strings + 4 ≤ section_limit → length (type_bytes t) + 16 ≤ section_limit → AreChangesOf t c × (changed t c ≡ ksyms_table t ids)
   grows_by_int rest int first there strings is none types len string_room type_room =
       let new : Record = c_int (length t.strings) in
       let added : map record_of c.new_types.items ≡ new ∷ [] = ap (map record_of) types ∙ ap (λ r. r ∷ []) is in

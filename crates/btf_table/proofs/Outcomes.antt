@@ -10,12 +10,12 @@ use Rattle.btf_records.specs.BtfType.{record_of, fallback_of, type_kind}
 use Rattle.btf_records.specs.declared.btf_type.BtfType.TheVariants as types
 use Rattle.btf_records.specs.declared.btf_type.BtfType.{BtfType}
 use Rattle.btf_table.specs.InPlace.{denied, denied_by, denied_type}
-use Rattle.btf_table.specs.PassStep.{outcome_of, made_of, placed_of}
+use Rattle.btf_table.specs.PassStep.{rule_outcome, made_of, placed_of}
 use Rattle.btf_table.specs.declared.sanitize.outcome.Outcome.{Outcome}
 use Rattle.btf_table.specs.declared.sanitize.outcome.Outcome.TheVariants.{Same, Denied, Other}
 
 -- what holds for a rule that replaces a type holds for its outcome
-pub placed_meets : (b : BtfType) (made : Result (Option BtfType) BtfError) (P : Result BtfType Refusal → Type 0) → MeetsOrNoMemory (λ new. unwrap_or new b) made P → MeetsOrNoMemory (λ o. made_of o b) (result_map_both outcome_of (λ e. e) made) P
+pub placed_meets : (b : BtfType) (made : Result (Option BtfType) BtfError) (P : Result BtfType Refusal → Type 0) → MeetsOrNoMemory (λ new. unwrap_or new b) made P → MeetsOrNoMemory (λ o. made_of o b) (result_map_both rule_outcome (λ e. e) made) P
 placed_meets b (Ok (Some new)) P meets = meets
 placed_meets b (Ok None) P meets = meets
 placed_meets b (Err e) P meets = meets

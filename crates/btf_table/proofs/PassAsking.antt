@@ -10,9 +10,9 @@ use Rattle.btf_rewrite_model.specs.declared.feature.FeatureAnswer.{FeatureAnswer
 use Rattle.btf_rewrite_model.specs.Pass.{Pass, asks_below, each_once, Asked}
 use Rattle.btf_rewrite_model.specs.Pass.{asks as model_asks}
 use Rattle.btf_rewrite_model.specs.RewriteLaws.{IsAmong}
-use Rattle.btf_rewrite_model.specs.Passing.{AreAnswersTo, features_of, IsAt}
+use Rattle.btf_rewrite_model.specs.Passing.{AreAnswersTo, features_of, IsPassAt}
 use Rattle.btf_rewrite_model.proofs.Passing.{NextAnswers, AnswersWith, asked_next, grants_append, among_each, further_same, asks_begin, each_once_begins}
-use Rattle.btf_table.specs.Features.{Resolver, Asks, AsksFor, Called, IsFurther}
+use Rattle.btf_table.specs.Features.{Resolver, AsksResolver, AsksFor, Called, IsFurther}
 use Rattle.btf_table.specs.PassStep.{HasAsked, AsksUpTo, BeginsAsked}
 
 -- ---- the predicate
@@ -23,7 +23,7 @@ called_next step first before after [] f granted called now = (after, subst (λ 
 called_next step first before after (a ∷ answers) f granted called now = (called.0, called.1, called_next step called.0 before after answers f granted called.2 now)
 
 -- asking for a feature is one call of the predicate, or nothing
-pub asks_called : {F : Type 0} (step : F → BtfFeature → Bool → F → Type 0) (first : F) (f : BtfFeature) (old new : Resolver F) (granted : Bool) → Asks step f old granted new → Called step first old.answers old.predicate → Called step first new.answers new.predicate
+pub asks_called : {F : Type 0} (step : F → BtfFeature → Bool → F → Type 0) (first : F) (f : BtfFeature) (old new : Resolver F) (granted : Bool) → AsksResolver step f old granted new → Called step first old.answers old.predicate → Called step first new.answers new.predicate
 asks_called {F} step first f old new granted asks called =
     elim (answer_to old.answers f) as (λ (o : Option Bool). AsksFor step f o old granted new → Called step first new.answers new.predicate) [
       | None ↦ λ one. subst (λ answers. Called step first answers new.predicate) (sym one.1) (called_next step first old.predicate new.predicate old.answers f granted called one.0)
@@ -31,7 +31,7 @@ asks_called {F} step first f old new granted asks called =
     ] asks
 
 -- and appends one answer, or none
-pub asks_further : {F : Type 0} (step : F → BtfFeature → Bool → F → Type 0) (f : BtfFeature) (old new : Resolver F) (granted : Bool) → Asks step f old granted new → IsFurther old.answers new.answers
+pub asks_further : {F : Type 0} (step : F → BtfFeature → Bool → F → Type 0) (f : BtfFeature) (old new : Resolver F) (granted : Bool) → AsksResolver step f old granted new → IsFurther old.answers new.answers
 asks_further {F} step f old new granted asks =
     elim (answer_to old.answers f) as (λ (o : Option Bool). AsksFor step f o old granted new → IsFurther old.answers new.answers) [
       | None ↦ λ one. (record { feature = f; granted = granted } ∷ [], one.1)
@@ -50,7 +50,7 @@ further_answers old new further = further.1
 
 -- ---- the answers
 
-pub asks_next : {F : Type 0} (step : F → BtfFeature → Bool → F → Type 0) (f : BtfFeature) (old new : Resolver F) (granted : Bool) → Asks step f old granted new
+pub asks_next : {F : Type 0} (step : F → BtfFeature → Bool → F → Type 0) (f : BtfFeature) (old new : Resolver F) (granted : Bool) → AsksResolver step f old granted new
     → NextAnswers old.answers f granted new.answers
 asks_next {F} step f old new granted asks =
     elim (answer_to old.answers f) as (λ (o : Option Bool). AsksFor step f o old granted new → AnswersWith o old.answers f granted new.answers) [
@@ -89,7 +89,7 @@ asked_kept p id some answers new f g granted has next among =
 -- ---- the whole pass
 
 -- what is asked for at an id are the first features of the whole pass
-pub begins_at : (p : Pass) (id : ℕ) (answers : List FeatureAnswer) (left : List BtfFeature) → IsAt p id → id < length p.table.records → AsksUpTo p id answers left → BeginsAsked (record p { answers = answers })
+pub begins_at : (p : Pass) (id : ℕ) (answers : List FeatureAnswer) (left : List BtfFeature) → IsPassAt p id → id < length p.table.records → AsksUpTo p id answers left → BeginsAsked (record p { answers = answers })
 begins_at p id answers left at lt asks =
     let q : Pass = record p { answers = answers } in
     let has : HasAsked p id asks.0 answers = asks.1 in
@@ -103,7 +103,7 @@ begins_at p id answers left at lt asks =
     (begins.0, ap each_once all ∙ begins.1 ∙ ap (λ fs. fs ++ begins.0) (sym has.asked))
 
 -- all is asked
-pub begins_all : (p : Pass) → IsAt p (length p.table.records) → BeginsAsked p
+pub begins_all : (p : Pass) → IsPassAt p (length p.table.records) → BeginsAsked p
 begins_all p at = ([], sym at.asked ∙ sym (append-nil (features_of p.answers)))
 
 -- nothing is asked yet

@@ -24,7 +24,7 @@ use Rattle.btf_rewrite_model.proofs.FirstMade.{makes_first, made_first, none_nex
 use Rattle.btf_records.specs.BtfType.{record_of, fallback_of, type_kind}
 use Rattle.btf_records.specs.declared.btf_type.BtfType.TheVariants as types
 use Rattle.btf_records.specs.declared.btf_type.BtfType.{BtfType}
-use Rattle.btf_table.specs.Adding.{strings_end, next_id, Adds}
+use Rattle.btf_table.specs.Adding.{next_string_offset, next_id, Adds}
 use Rattle.btf_table.specs.Params.{lack_a_name}
 use Rattle.btf_table.proofs.Prototypes.{no_texts, names_stay}
 use Rattle.btf_table.proofs.Adding.{adds_none}
@@ -153,21 +153,21 @@ proto_fault p id b offset there kind granted at =
     ∙ ap (λ (o : ℕ). first_fault (have_room o (param_texts 0 (record_of b).tail))) at
 
 pub proto_named : (p : Pass) (id : ℕ) (b new : BtfType) (before after : Made) → IsType p.table id b → kind_of (record_of b).info ≡ Some kinds.FuncProto → IsHere p id before → has p features.Func ≡ true
-    → first_fault (have_room (strings_end p.table before.changes) (param_texts 0 (record_of b).tail)) ≡ None → record_of new ≡ record (record_of b) { tail = named_params 0 (strings_end p.table before.changes) (record_of b).tail }
+    → first_fault (have_room (next_string_offset p.table before.changes) (param_texts 0 (record_of b).tail)) ≡ None → record_of new ≡ record (record_of b) { tail = named_params 0 (next_string_offset p.table before.changes) (record_of b).tail }
     → fallback_of b ≡ None → fallback_of new ≡ None → Adds p.table before.changes after.changes (param_texts 0 (record_of b).tail) [] → after.names ≡ before.names → after.member_type ≡ before.member_type → after.filler ≡ before.filler
     → IsRuled p id b before after new
 proto_named p id b new before after there kind here granted passed is none fallback adds names member_type filler =
     let unfilled : gets_filler p id ≡ false = loud_no_filler p id b (Some kinds.FuncProto) there kind refl in
     let wants : wants_member_type p id ≡ false = wants_none p id (Some kinds.FuncProto) (kind_there p.table id b there ∙ kind) refl in
     record {
-      passed = proto_fault p id b (strings_end p.table before.changes) there kind granted here.offset ∙ passed;
+      passed = proto_fault p id b (next_string_offset p.table before.changes) there kind granted here.offset ∙ passed;
       record_is = is ∙ sym (
           becomes_there p id b (Some kinds.FuncProto) there kind
           ∙ ap (λ (g : Bool). if g then record (record_of b) { tail = named_params 0 (offset_at p id) (record_of b).tail } else model.enum (record_of b).name (vlen (record_of b).info) (record_of b).tail) granted
           ∙ ap (λ (o : ℕ). record (record_of b) { tail = named_params 0 o (record_of b).tail }) here.offset
           );
       fallback_is = fallback ∙ sym (falls_back_there p id b (Some kinds.FuncProto) there kind ∙ none);
-      len = same_len p id (record_of b) (record_of new) (ap (λ (r : Record). length r.tail) is ∙ named_len 0 (strings_end p.table before.changes) (record_of b).tail) unfilled;
+      len = same_len p id (record_of b) (record_of new) (ap (λ (r : Record). length r.tail) is ∙ named_len 0 (next_string_offset p.table before.changes) (record_of b).tail) unfilled;
       grown = grown_by p id before after (param_texts 0 (record_of b).tail) [] adds (proto_names p id b there kind granted) (added_there p id b (Some kinds.FuncProto) there kind) unfilled names
           (subst (MadeBelow (wants_member_type p) (free_id p) (suc id)) (sym member_type) (made_on (wants_member_type p) (free_id p) id before.member_type here.member_type wants)) here.filler filler;
     }
@@ -178,8 +178,8 @@ pub proto_stays : (p : Pass) (id : ℕ) (b : BtfType) (before : Made) → IsType
 proto_stays p id b before there kind here granted named none =
     let texts_are : param_texts 0 (record_of b).tail ≡ [] = no_texts 0 (record_of b).tail named in
     proto_named p id b b before before there kind here granted
-    (ap (λ ts. first_fault (have_room (strings_end p.table before.changes) ts)) texts_are)
-    (ap (λ (tail : List ℕ). record (record_of b) { tail = tail }) (sym (names_stay 0 (strings_end p.table before.changes) (record_of b).tail named)))
+    (ap (λ ts. first_fault (have_room (next_string_offset p.table before.changes) ts)) texts_are)
+    (ap (λ (tail : List ℕ). record (record_of b) { tail = tail }) (sym (names_stay 0 (next_string_offset p.table before.changes) (record_of b).tail named)))
     none none
     (subst (λ ts. Adds p.table before.changes before.changes ts []) (sym texts_are) (adds_none p.table before.changes here.room)) refl refl refl
 
@@ -222,7 +222,7 @@ enum64_stays p id b before there kind here granted =
       passed = fault_there p id b (Some kinds.Enum64) there kind ∙ ap (λ ts. first_fault (have_room (offset_at p id) ts ++ all_fit (type_len_at p id) (added p id))) no_texts ∙ ap (λ rs. first_fault (all_fit (type_len_at p id) rs)) none_added;
       record_is = sym (becomes_there p id b (Some kinds.Enum64) there kind
           ∙ ap (λ (g : Bool). if g then record_of b else model.union (record_of b).name (record_of b).third (vlen (record_of b).info) (variant_members (member_type_id p id) (model.variants (record_of b).tail))) granted);
-      fallback_is = sym (falls_back_there p id b (Some kinds.Enum64) there kind ∙ ap (λ (g : Bool). if g then fallback_of b else Some (model.fallback_of (record_of b))) granted);
+      fallback_is = sym (falls_back_there p id b (Some kinds.Enum64) there kind ∙ ap (λ (g : Bool). if g then fallback_of b else Some (model.enum64_fallback (record_of b))) granted);
       len = same_len p id (record_of b) (record_of b) refl unfilled;
       grown = grown_by p id before before [] [] (adds_none p.table before.changes here.room) no_texts none_added unfilled refl
           (made_on (wants_member_type p) (free_id p) id before.member_type here.member_type wants) here.filler refl;
@@ -251,15 +251,15 @@ member_type_there p id before after number here wants some same =
     }
 
 pub member_type_new : (p : Pass) (id : ℕ) (before after : Made) (number : ℕ) → IsHere p id before → wants_member_type p id ≡ true → before.member_type ≡ None
-    → first_fault (have_room (strings_end p.table before.changes) (member_type_text ∷ []) ++ all_fit before.changes.type_len (byte_int (strings_end p.table before.changes) ∷ [])) ≡ None → number ≡ next_id p.table before.changes
-    → Adds p.table before.changes after.changes (member_type_text ∷ []) (byte_int (strings_end p.table before.changes) ∷ []) → after.member_type ≡ Some (next_id p.table before.changes) → HasMemberType p id before after number
+    → first_fault (have_room (next_string_offset p.table before.changes) (member_type_text ∷ []) ++ all_fit before.changes.type_len (byte_int (next_string_offset p.table before.changes) ∷ [])) ≡ None → number ≡ next_id p.table before.changes
+    → Adds p.table before.changes after.changes (member_type_text ∷ []) (byte_int (next_string_offset p.table before.changes) ∷ []) → after.member_type ≡ Some (next_id p.table before.changes) → HasMemberType p id before after number
 member_type_new p id before after number here wants none passed is adds made =
     let m : MadeBelow (wants_member_type p) (free_id p) id None = subst (MadeBelow (wants_member_type p) (free_id p) id) none here.member_type in
     let makes : makes_member_type p id ≡ true = makes_first (wants_member_type p) (free_id p) id m ∙ wants in
     let checks : ℕ → ℕ → Option Refusal = λ o n. first_fault (have_room o (member_type_text ∷ []) ++ all_fit n (byte_int o ∷ [])) in
     record {
       checks = ap (λ (b : Bool). first_fault (have_room (offset_at p id) (if b then member_type_text ∷ [] else []) ++ all_fit (type_len_at p id) (if b then byte_int (offset_at p id) ∷ [] else []))) makes
-          ∙ ap (λ (o : ℕ). checks o (type_len_at p id)) here.offset ∙ ap (checks (strings_end p.table before.changes)) here.type_len ∙ passed;
+          ∙ ap (λ (o : ℕ). checks o (type_len_at p id)) here.offset ∙ ap (checks (next_string_offset p.table before.changes)) here.type_len ∙ passed;
       adds = subst (λ (b : Bool). Adds p.table before.changes after.changes (if b then member_type_text ∷ [] else []) (if b then byte_int (offset_at p id) ∷ [] else [])) (sym makes)
           (subst (λ (o : ℕ). Adds p.table before.changes after.changes (member_type_text ∷ []) (byte_int o ∷ [])) (sym here.offset) adds);
       made = subst (MadeBelow (wants_member_type p) (free_id p) (suc id)) (sym (made ∙ ap (λ (n : ℕ). Some n) (sym here.free))) (made_first (wants_member_type p) (free_id p) id m wants);
@@ -272,7 +272,7 @@ member_type_new p id before after number here wants none passed is adds made =
 
 pub enum64_as_union : (p : Pass) (id : ℕ) (b new : BtfType) (before after : Made) (number : ℕ) → IsType p.table id b → kind_of (record_of b).info ≡ Some kinds.Enum64 → IsHere p id before → has p features.Enum64 ≡ false
     → HasMemberType p id before after number → length (record_of b).tail ≡ 3 * vlen (record_of b).info
-    → record_of new ≡ model.union (record_of b).name (record_of b).third (vlen (record_of b).info) (variant_members number (model.variants (record_of b).tail)) → fallback_of new ≡ Some (model.fallback_of (record_of b))
+    → record_of new ≡ model.union (record_of b).name (record_of b).third (vlen (record_of b).info) (variant_members number (model.variants (record_of b).tail)) → fallback_of new ≡ Some (model.enum64_fallback (record_of b))
     → after.names ≡ before.names → after.filler ≡ before.filler → IsRuled p id b before after new
 enum64_as_union p id b new before after number there kind here denied member_type tail is fallback names filler =
     let unfilled : gets_filler p id ≡ false = loud_no_filler p id b (Some kinds.Enum64) there kind refl in
@@ -283,14 +283,14 @@ enum64_as_union p id b new before after number there kind here denied member_typ
       passed = fault_there p id b (Some kinds.Enum64) there kind ∙ ap (λ ts. first_fault (have_room (offset_at p id) ts ++ all_fit (type_len_at p id) (added p id))) texts_are
           ∙ ap (λ rs. first_fault (have_room (offset_at p id) (if makes_member_type p id then member_type_text ∷ [] else []) ++ all_fit (type_len_at p id) rs)) added_are ∙ member_type.checks;
       record_is = is ∙ ap made (sym member_type.number_is) ∙ sym (becomes_there p id b (Some kinds.Enum64) there kind ∙ ap (λ (g : Bool). if g then record_of b else made (member_type_id p id)) denied);
-      fallback_is = fallback ∙ sym (falls_back_there p id b (Some kinds.Enum64) there kind ∙ ap (λ (g : Bool). if g then fallback_of b else Some (model.fallback_of (record_of b))) denied);
+      fallback_is = fallback ∙ sym (falls_back_there p id b (Some kinds.Enum64) there kind ∙ ap (λ (g : Bool). if g then fallback_of b else Some (model.enum64_fallback (record_of b))) denied);
       len = same_len p id (record_of b) (record_of new) (ap (λ (r : Record). length r.tail) is ∙ members_len number (vlen (record_of b).info) (record_of b).tail tail) unfilled;
       grown = grown_by p id before after _ _ member_type.adds texts_are added_are unfilled names member_type.made here.filler filler;
     }
 
 -- the tests of an ENUM64 that makes the member type
 pub enum64_fault : (p : Pass) (id : ℕ) (b : BtfType) (before : Made) → IsType p.table id b → kind_of (record_of b).info ≡ Some kinds.Enum64 → IsHere p id before → has p features.Enum64 ≡ false → before.member_type ≡ None
-    → fault p id ≡ first_fault (have_room (strings_end p.table before.changes) (member_type_text ∷ []) ++ all_fit before.changes.type_len (byte_int (strings_end p.table before.changes) ∷ []))
+    → fault p id ≡ first_fault (have_room (next_string_offset p.table before.changes) (member_type_text ∷ []) ++ all_fit before.changes.type_len (byte_int (next_string_offset p.table before.changes) ∷ []))
 enum64_fault p id b before there kind here denied none =
     let m : MadeBelow (wants_member_type p) (free_id p) id None = subst (MadeBelow (wants_member_type p) (free_id p) id) none here.member_type in
     let makes : makes_member_type p id ≡ true = makes_first (wants_member_type p) (free_id p) id m ∙ wants_one p id b there kind denied in
@@ -298,7 +298,7 @@ enum64_fault p id b before there kind here denied none =
     fault_there p id b (Some kinds.Enum64) there kind
     ∙ ap (λ ts. first_fault (have_room (offset_at p id) ts ++ all_fit (type_len_at p id) (added p id))) (texts_there p id b (Some kinds.Enum64) there kind ∙ ap (λ (g : Bool). if g then member_type_text ∷ [] else []) makes)
     ∙ ap (λ rs. first_fault (have_room (offset_at p id) (member_type_text ∷ []) ++ all_fit (type_len_at p id) rs)) (added_there p id b (Some kinds.Enum64) there kind ∙ ap (λ (g : Bool). if g then byte_int (offset_at p id) ∷ [] else []) makes)
-    ∙ ap (λ (o : ℕ). checks o (type_len_at p id)) here.offset ∙ ap (checks (strings_end p.table before.changes)) here.type_len
+    ∙ ap (λ (o : ℕ). checks o (type_len_at p id)) here.offset ∙ ap (checks (next_string_offset p.table before.changes)) here.type_len
 
 -- ---- kinds that ask for at most one feature
 

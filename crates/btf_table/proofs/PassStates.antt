@@ -25,20 +25,20 @@ use Rattle.btf_rewrite_model.specs.Checks.{record_len}
 use Rattle.btf_rewrite_model.specs.Pass.{Pass, has, asks, asks_by, asks_below, each_once, is_enum64, texts, texts_below, added, added_by, added_below, free_id, offset_at, filler_type_text, gets_filler, makes_filler, makes_member_type, filler_offset, growth_below, wants_member_type}
 use Rattle.btf_rewrite_model.specs.Rule.{becomes, becomes_by, ruled_below, falls_back, falls_back_by}
 use Rattle.btf_rewrite_model.specs.Fault.{fault}
-use Rattle.btf_rewrite_model.specs.Rewritten.{ended, AreRuled, rewritten}
+use Rattle.btf_rewrite_model.specs.Rewritten.{with_zero_byte, AreRuled, rewritten}
 use Rattle.btf_rewrite_model.specs.RewriteLaws.{IsAmong, with_answers, Agree, IsSameBelow}
 use Rattle.btf_rewrite_model.proofs.Agreeing.{AgreeAt, agree_at, agree_of, same_below, same_refused}
 use Rattle.btf_rewrite_model.proofs.Appending.{ended_len}
 use Rattle.btf_rewrite_model.specs.Passing.{MadeBelow}
 use Rattle.btf_rewrite_model.proofs.FirstMade.{none_next, none_below_zero, made_alike, member_type_alike, filler_alike_below}
-use Rattle.btf_rewrite_model.specs.Passing.{features_of, is_quiet, AreAnswersTo, IsAt}
+use Rattle.btf_rewrite_model.specs.Passing.{features_of, is_quiet, AreAnswersTo, IsPassAt}
 use Rattle.btf_rewrite_model.proofs.Passing.{IsQuiet, quiet, Grows, grows, further_agree, further_same, goes_on, made_next}
 use Rattle.btf_rewrite_model.proofs.Ruled.{length-ruled}
 use Rattle.btf_records.specs.BtfType.{record_of, fallback_of, type_kind}
 use Rattle.btf_records.specs.declared.btf_type.BtfType.{BtfType}
 use Rattle.btf_table.specs.Adding.{HasRoom}
-use Rattle.btf_table.specs.Changes.{put_all, each, AreInside, AreOf, changed}
-use Rattle.btf_table.specs.Denied.{AllHaveKinds, AreIds, deny_all, with_denied}
+use Rattle.btf_table.specs.Changes.{put_all, each, AreInside, AreChangesOf, changed}
+use Rattle.btf_table.specs.Denied.{AllHaveKinds, AreTypeIds, deny_all, with_denied}
 use Rattle.btf_table.specs.Btf.{IsType}
 use Rattle.btf_table.specs.PassStep.{kept_changes, kept_ids, made_of, placed_of, placed_below, IsHere, IsRuled, HasAsked, AsksUpTo, IsMade, Steps, Passes, growth}
 use Rattle.btf_table.specs.declared.sanitize.made.Made.{Made}
@@ -75,7 +75,7 @@ free_lower p answers id j agree ruled lt =
 
 -- nor do their fallbacks
 falls_back_alike : (p : Pass) (answers : List FeatureAnswer) (id : ℕ) (k : Option Kind) (r : Record) (old : Option Fallback) → kind_at p.table id ≡ k → AgreeAt p answers id → falls_back_by (with_answers p answers) k r old ≡ falls_back_by p k r old
-falls_back_alike p answers id (Some kinds.Enum64) r old kind agree = ap (λ (b : Bool). if b then old else Some (model.fallback_of r)) (agree_of p answers id (Some kinds.Enum64) features.Enum64 agree kind refl)
+falls_back_alike p answers id (Some kinds.Enum64) r old kind agree = ap (λ (b : Bool). if b then old else Some (model.enum64_fallback r)) (agree_of p answers id (Some kinds.Enum64) features.Enum64 agree kind refl)
 falls_back_alike p answers id k r old kind agree = refl
 
 falls_back_lower : (p : Pass) (answers : List FeatureAnswer) (id j : ℕ) → Agree p answers id → j < id → falls_back (with_answers p answers) j ≡ falls_back p j
@@ -96,7 +96,7 @@ range_alike f g (suc n) alike =
 -- ---- the state at an id
 
 -- Further answers do not change what was made.
-pub here_of_made : (p : Pass) (id : ℕ) (m : Made) (ids : List ℕ) (answers more : List FeatureAnswer) → answers ≡ p.answers ++ more → IsAt p id → IsMade p id m ids → IsHere (record p { answers = answers }) id m
+pub here_of_made : (p : Pass) (id : ℕ) (m : Made) (ids : List ℕ) (answers more : List FeatureAnswer) → answers ≡ p.answers ++ more → IsPassAt p id → IsMade p id m ids → IsHere (record p { answers = answers }) id m
 here_of_made p id m ids answers more is at made = subst (λ (given : List FeatureAnswer). IsHere (with_answers p given) id m) (sym is) here
   where
     here : IsHere (with_answers p (p.answers ++ more)) id m
@@ -121,13 +121,13 @@ here_of_made p id m ids answers more is at made = subst (λ (given : List Featur
 -- ---- from id to id
 
 -- The pass completes an id if all that it asks for is answered and it is not refused.
-pub at_next : (p : Pass) (id : ℕ) (answers : List FeatureAnswer) → IsAt p id → AsksUpTo p id answers [] → fault (record p { answers = answers }) id ≡ None → IsAt (record p { answers = answers }) (suc id)
+pub at_next : (p : Pass) (id : ℕ) (answers : List FeatureAnswer) → IsPassAt p id → AsksUpTo p id answers [] → fault (record p { answers = answers }) id ≡ None → IsPassAt (record p { answers = answers }) (suc id)
 at_next p id answers at asks_up passed =
     let some : List BtfFeature = asks_up.0 in
     let has : HasAsked p id some answers = asks_up.1 in
     let all_asked : AreAnswersTo (asks_below p id ++ asks (with_answers p answers) id) answers =
     subst (λ fs. AreAnswersTo (asks_below p id ++ fs) answers) (sym (asks_up.2 ∙ append-nil some)) has.asked in
-    subst (λ (given : List FeatureAnswer). AreAnswersTo (asks_below p id ++ asks (with_answers p given) id) given → fault (with_answers p given) id ≡ None → IsAt (with_answers p given) (suc id))
+    subst (λ (given : List FeatureAnswer). AreAnswersTo (asks_below p id ++ asks (with_answers p given) id) given → fault (with_answers p given) id ≡ None → IsPassAt (with_answers p given) (suc id))
     (sym has.further) (goes_on p id has.more at) all_asked passed
 
 -- What is recorded for an id; the ids that will be denied are given before and after it.
@@ -161,18 +161,18 @@ put_next f cs xs id b o inside at =
     ap (put_all (each f cs)) (take_at xs id (f b) at) ∙ put_kept f cs (take id xs) (f b) (subst (λ (n : ℕ). AreInside n cs) (sym (many xs id (f b) at)) inside)
 
 -- one more id that is denied, or is not
-deny_next : (ids : List ℕ) (xs : List Record) (id : ℕ) (b : BtfType) (o : Outcome) → AreIds id ids → length xs ≡ id → kind_of (record_of b).info ≡ Some (type_kind b)
+deny_next : (ids : List ℕ) (xs : List Record) (id : ℕ) (b : BtfType) (o : Outcome) → AreTypeIds id ids → length xs ≡ id → kind_of (record_of b).info ≡ Some (type_kind b)
     → deny_all (kept_ids ids id o) (xs ++ record_of (placed_of o b) ∷ []) ≡ deny_all ids xs ++ record_of (made_of o b) ∷ []
 deny_next ids xs id b Denied inside at kind =
-    deny_last ids xs (record_of b) id (subst (λ (n : ℕ). AreIds n ids) (sym at) inside) at ∙ ap (λ r. deny_all ids xs ++ r ∷ []) (sym (denied_record b kind))
-deny_next ids xs id b Same inside at kind = deny_front ids xs (record_of b ∷ []) (subst (λ (n : ℕ). AreIds n ids) (sym at) inside)
-deny_next ids xs id b (Other new) inside at kind = deny_front ids xs (record_of new ∷ []) (subst (λ (n : ℕ). AreIds n ids) (sym at) inside)
+    deny_last ids xs (record_of b) id (subst (λ (n : ℕ). AreTypeIds n ids) (sym at) inside) at ∙ ap (λ r. deny_all ids xs ++ r ∷ []) (sym (denied_record b kind))
+deny_next ids xs id b Same inside at kind = deny_front ids xs (record_of b ∷ []) (subst (λ (n : ℕ). AreTypeIds n ids) (sym at) inside)
+deny_next ids xs id b (Other new) inside at kind = deny_front ids xs (record_of new ∷ []) (subst (λ (n : ℕ). AreTypeIds n ids) (sym at) inside)
 
 kept_inside : (cs : List (ℕ × BtfType)) (id : ℕ) (o : Outcome) → 0 < id → AreInside id cs → AreInside (suc id) (kept_changes cs id o)
 kept_inside cs id (Other new) low inside = inside_next (suc id) cs id new (inside_more id (suc id) cs (omega arith) inside) low (omega arith)
 kept_inside cs id o low inside = inside_more id (suc id) cs (omega arith) inside
 
-denied_inside : (ids : List ℕ) (id : ℕ) (o : Outcome) → 0 < id → AreIds id ids → AreIds (suc id) (kept_ids ids id o)
+denied_inside : (ids : List ℕ) (id : ℕ) (o : Outcome) → 0 < id → AreTypeIds id ids → AreTypeIds (suc id) (kept_ids ids id o)
 denied_inside ids id Denied low inside = ids_next (suc id) ids id (ids_more id (suc id) ids (omega arith) inside) low (omega arith)
 denied_inside ids id o low inside = ids_more id (suc id) ids (omega arith) inside
 
@@ -182,7 +182,7 @@ one_len r = sum_by-cons record_len r [] ∙ plus_none (record_len r)
     plus_none : (n : ℕ) → n + 0 ≡ n
     plus_none n = omega arith
 
-one_more : (p : Pass) (id : ℕ) (more : List FeatureAnswer) (b : BtfType) (o : Outcome) (before mid after : Made) (ids more_ids : List ℕ) → 0 < id → IsAt p id → IsMade p id before ids → IsType p.table id b
+one_more : (p : Pass) (id : ℕ) (more : List FeatureAnswer) (b : BtfType) (o : Outcome) (before mid after : Made) (ids more_ids : List ℕ) → 0 < id → IsPassAt p id → IsMade p id before ids → IsType p.table id b
     → Keeps id b o mid after ids more_ids → IsRuled (with_answers p (p.answers ++ more)) id b before mid (made_of o b) → IsMade (with_answers p (p.answers ++ more)) (suc id) after more_ids
 one_more p id more b o before mid after ids more_ids low at made there keeps ruled =
     let q : Pass = with_answers p (p.answers ++ more) in
@@ -193,7 +193,7 @@ one_more p id more b o before mid after ids more_ids low at made there keeps rul
     let old : List (ℕ × BtfType) = before.changes.types.items in
     let n = made_next p id more before.changes.new_strings.items (map record_of before.changes.new_types.items) (deny_all ids (placed_below p id before)) before.changes.type_len at made.has_made in
     let types : after.changes.types.items ≡ kept_changes old id o = keeps.types ∙ ap (λ ts. kept_changes ts.items id o) ruled.grown.types in
-    let strings : after.changes.new_strings.items ≡ before.changes.new_strings.items ++ flat_map ended (texts q id) = ap (λ v. v.items) keeps.strings ∙ ruled.grown.strings in
+    let strings : after.changes.new_strings.items ≡ before.changes.new_strings.items ++ flat_map with_zero_byte (texts q id) = ap (λ v. v.items) keeps.strings ∙ ruled.grown.strings in
     let records : map record_of after.changes.new_types.items ≡ map record_of before.changes.new_types.items ++ added q id = ap (λ v. map record_of v.items) keeps.new_types ∙ ruled.grown.records in
     let fallbacks : map fallback_of after.changes.new_types.items ≡ map fallback_of before.changes.new_types.items ++ no_fallbacks (added q id) = ap (λ v. map fallback_of v.items) keeps.new_types ∙ ruled.grown.fallbacks in
     let type_len : after.changes.type_len ≡ before.changes.type_len + sum_by record_len (added q id) + growth q id = keeps.type_len ∙ ruled.grown.type_len in
@@ -224,7 +224,7 @@ one_more p id more b o before mid after ids more_ids low at made there keeps rul
           ∙ sym (map-append (λ (r : Record). r.name) (ruled_below p id) (record_of new ∷ [])) ∙ ap (λ r. map (λ (r : Record). r.name) (ruled_below p id ++ r ∷ [])) ruled.record_is
           ∙ ap (map (λ (r : Record). r.name)) (sym g.ruled);
       inside = subst (AreInside (suc id)) (sym types) (kept_inside old id o low made.inside);
-      denied = subst (AreIds (suc id)) (sym keeps.denied) (denied_inside ids id o low made.denied);
+      denied = subst (AreTypeIds (suc id)) (sym keeps.denied) (denied_inside ids id o low made.denied);
       kinds = subst AllHaveKinds (sym placed_is) (one_more_kind front (record_of placed) (type_kind placed) made.kinds keeps.kind);
       len = omega (arith, placed_len, taken_len, made.len, ruled.len, keeps.len, g.growth);
       member_type = subst (MadeBelow (wants_member_type q) (free_id q) (suc id)) (sym keeps.member_type) ruled.grown.member_type;
@@ -237,28 +237,28 @@ one_more p id more b o before mid after ids more_ids low at made there keeps rul
     }
 
 -- What is made when the pass comes to the next id: what the rule appends, and what the type becomes.
-pub made_on_next : (p : Pass) (id : ℕ) (answers more : List FeatureAnswer) → answers ≡ p.answers ++ more → (b : BtfType) (o : Outcome) (before mid after : Made) (ids more_ids : List ℕ) → 0 < id → IsAt p id → IsMade p id before ids → IsType p.table id b
+pub made_on_next : (p : Pass) (id : ℕ) (answers more : List FeatureAnswer) → answers ≡ p.answers ++ more → (b : BtfType) (o : Outcome) (before mid after : Made) (ids more_ids : List ℕ) → 0 < id → IsPassAt p id → IsMade p id before ids → IsType p.table id b
     → IsRuled (record p { answers = answers }) id b before mid (made_of o b) → Keeps id b o mid after ids more_ids → IsMade (record p { answers = answers }) (suc id) after more_ids
 made_on_next p id answers more is b o before mid after ids more_ids low at made there ruled keeps =
     subst (λ (given : List FeatureAnswer). IsRuled (with_answers p given) id b before mid (made_of o b) → IsMade (with_answers p given) (suc id) after more_ids) (sym is)
     (one_more p id more b o before mid after ids more_ids low at made there keeps) ruled
 
 -- The pass completes an id if what it asks for is answered and its rule holds.
-pub steps_on : (p : Pass) (id : ℕ) (answers : List FeatureAnswer) (b : BtfType) (o : Outcome) (before mid after : Made) (ids more_ids : List ℕ) → 0 < id → IsAt p id → IsMade p id before ids → IsType p.table id b
+pub steps_on : (p : Pass) (id : ℕ) (answers : List FeatureAnswer) (b : BtfType) (o : Outcome) (before mid after : Made) (ids more_ids : List ℕ) → 0 < id → IsPassAt p id → IsMade p id before ids → IsType p.table id b
     → Steps p id answers b before mid (Ok (made_of o b)) → Keeps id b o mid after ids more_ids
-    → IsAt (record p { answers = answers }) (suc id) × IsMade (record p { answers = answers }) (suc id) after more_ids
+    → IsPassAt (record p { answers = answers }) (suc id) × IsMade (record p { answers = answers }) (suc id) after more_ids
 steps_on p id answers b o before mid after ids more_ids low at made there steps keeps =
     let has : HasAsked p id steps.0.0 answers = steps.0.1 in
     (at_next p id answers at steps.0 steps.1.passed, made_on_next p id answers has.more has.further b o before mid after ids more_ids low at made there steps.1 keeps)
 
 -- Further answers do not change that lower ids are not refused.
-still_ruled : (p : Pass) (id : ℕ) (more : List FeatureAnswer) → IsAt p id → AreRuled (with_answers p (p.answers ++ more)) id
+still_ruled : (p : Pass) (id : ℕ) (more : List FeatureAnswer) → IsPassAt p id → AreRuled (with_answers p (p.answers ++ more)) id
 still_ruled p id more at j lt =
     let agree : Agree p (p.answers ++ more) id = further_agree p id more at.asked in
     same_refused p (p.answers ++ more) j (agree_lower p (p.answers ++ more) id (suc j) (omega (arith, lt)) agree) (λ k below. at.ruled k (omega (arith, below, lt))) ∙ at.ruled j lt
 
 -- An id that is refused after what it asks for is answered ends the pass.
-pub refused_at : (p : Pass) (id : ℕ) (answers : List FeatureAnswer) (refusal : Refusal) → id < length p.table.records → IsAt p id → AsksUpTo p id answers [] → fault (record p { answers = answers }) id ≡ Some refusal
+pub refused_at : (p : Pass) (id : ℕ) (answers : List FeatureAnswer) (refusal : Refusal) → id < length p.table.records → IsPassAt p id → AsksUpTo p id answers [] → fault (record p { answers = answers }) id ≡ Some refusal
     → Passes (record p { answers = answers }) (Err refusal)
 refused_at p id answers refusal lt at asks_up faults =
     let some : List BtfFeature = asks_up.0 in
@@ -300,10 +300,10 @@ added_kinds p rs (suc id) have =
 -- If the pass has completed all ids, the changes are for the table. The rewritten table is the table after the changes
 -- are applied and the recorded types are denied.
 pub passed_all : (p : Pass) (n : ℕ) (m : Made) (ids : List ℕ) (rs : List Record) → n ≡ length p.table.records → length p.table.fallbacks ≡ length p.table.records → p.table.records ≡ unknown ∷ rs → IsMade p n m ids
-    → AreOf p.table m.changes × AreIds (length p.table.records) ids × (with_denied ids (changed p.table m.changes) ≡ rewritten p)
+    → AreChangesOf p.table m.changes × AreTypeIds (length p.table.records) ids × (with_denied ids (changed p.table m.changes) ≡ rewritten p)
 passed_all p n m ids rs is as_many first made_n = whole (subst (λ (i : ℕ). IsMade p i m ids) is made_n)
   where
-    whole : IsMade p (length p.table.records) m ids → AreOf p.table m.changes × AreIds (length p.table.records) ids × (with_denied ids (changed p.table m.changes) ≡ rewritten p)
+    whole : IsMade p (length p.table.records) m ids → AreChangesOf p.table m.changes × AreTypeIds (length p.table.records) ids × (with_denied ids (changed p.table m.changes) ≡ rewritten p)
     whole made =
         let t : Table = p.table in
         let count : ℕ = length t.records in
@@ -316,12 +316,12 @@ passed_all p n m ids rs is as_many first made_n = whole (subst (λ (i : ℕ). Is
         let fallen : put_all (each fallback_of cs) t.fallbacks ≡ map (falls_back p) (range_with_len 0 count) = ap (put_all (each fallback_of cs)) (sym all_fallbacks) ∙ made.fallbacks in
         let new : List Record = map record_of m.changes.new_types.items in
         let appended : new ≡ added_below p count = made.has_made.types_are in
-        let within : AreIds (length front) ids = subst (λ (n : ℕ). AreIds n ids) (sym (length-put (each record_of cs) t.records)) made.denied in
+        let within : AreTypeIds (length front) ids = subst (λ (n : ℕ). AreTypeIds n ids) (sym (length-put (each record_of cs) t.records)) made.denied in
         let records : deny_all ids (front ++ new) ≡ ruled_below p count ++ added_below p count =
         deny_front ids front new within ∙ ap (λ xs. xs ++ new) ruled ∙ ap (λ xs. ruled_below p count ++ xs) appended in
         let table : with_denied ids (changed t m.changes) ≡ rewritten p =
         ap (λ xs. record (with_denied ids (changed t m.changes)) { strings = t.strings ++ xs }) made.has_made.strings_are
-        ∙ ap (λ xs. record (changed t m.changes) { strings = t.strings ++ flat_map ended (texts_below p count); records = xs }) records
+        ∙ ap (λ xs. record (changed t m.changes) { strings = t.strings ++ flat_map with_zero_byte (texts_below p count); records = xs }) records
         ∙ ap (λ xs. record (rewritten p) { fallbacks = xs })
         (ap (λ xs. xs ++ map fallback_of m.changes.new_types.items) fallen ∙ ap (λ xs. map (falls_back p) (range_with_len 0 count) ++ xs) (made.new_fallbacks ∙ ap no_fallbacks appended)) in
         let head : (rest : List Record) × (put_all (each record_of cs) (unknown ∷ rs) ≡ unknown ∷ rest) = first_stays record_of count cs unknown rs made.inside in
@@ -345,11 +345,11 @@ passed_all p n m ids rs is as_many first made_n = whole (subst (λ (i : ℕ). Is
         )
 
 -- So this is a whole pass.
-pub passes_whole : (p : Pass) (n : ℕ) (m : Made) (denied : Vec ℕ Global) (rs : List Record) → n ≡ length p.table.records → length p.table.fallbacks ≡ length p.table.records → p.table.records ≡ unknown ∷ rs → IsAt p n → IsMade p n m denied.items
+pub passes_whole : (p : Pass) (n : ℕ) (m : Made) (denied : Vec ℕ Global) (rs : List Record) → n ≡ length p.table.records → length p.table.fallbacks ≡ length p.table.records → p.table.records ≡ unknown ∷ rs → IsPassAt p n → IsMade p n m denied.items
     → Passes p (Ok (record { changes = m.changes; denied = denied }))
 passes_whole p n m denied rs is as_many first at made =
     let passed = passed_all p n m denied.items rs is as_many first made in
-    (subst (IsAt p) is at, passed.0, passed.1, passed.2)
+    (subst (IsPassAt p) is at, passed.0, passed.1, passed.2)
 
 -- ---- the start
 
@@ -365,7 +365,7 @@ pub record Begins (t : Table) (m : Made) : Type 0 where
   pub filler : m.filler ≡ None
 
 -- id 0 is Unknown, which asks for nothing, appends nothing and does not change
-pub made_at_start : (p : Pass) (m : Made) (rs : List Record) (first_fallback : Option Fallback) → p.table.records ≡ unknown ∷ rs → slice_get p.table.fallbacks 0 ≡ Some first_fallback → p.answers ≡ [] → Begins p.table m → IsAt p 1 × IsMade p 1 m []
+pub made_at_start : (p : Pass) (m : Made) (rs : List Record) (first_fallback : Option Fallback) → p.table.records ≡ unknown ∷ rs → slice_get p.table.fallbacks 0 ≡ Some first_fallback → p.answers ≡ [] → Begins p.table m → IsPassAt p 1 × IsMade p 1 m []
 made_at_start p m rs first_fallback first there none begins =
     let kind : kind_at p.table 0 ≡ Some kinds.Unknown = ap (λ (xs : List Record). kind_of (unwrap_or (slice_get xs 0) unknown).info) first in
     let q : IsQuiet p 0 = quiet p 0 (ap is_quiet kind) in
@@ -386,7 +386,7 @@ made_at_start p m rs first_fallback first there none begins =
       },
       record {
         has_made = record {
-          strings_are = begins.strings ∙ ap (flat_map ended) (sym texts_none);
+          strings_are = begins.strings ∙ ap (flat_map with_zero_byte) (sym texts_none);
           types_are = ap (map record_of) begins.new_types ∙ sym added_none;
           new_are = placed ∙ sym ruled;
           type_len_is = omega (arith, begins.type_len, ap (sum_by record_len) added_none, growth_none);

@@ -13,12 +13,12 @@ use Rattle.btf_rewrite_model.specs.Made.{wants_name}
 use Rattle.btf_rewrite_model.specs.Checks.{first_fault, have_room}
 use Rattle.btf_rewrite_model.specs.Pass.{texts_len, param_text, param_texts}
 use Rattle.btf_rewrite_model.specs.Rule.{named_params}
-use Rattle.btf_rewrite_model.specs.Rewritten.{ended}
+use Rattle.btf_rewrite_model.specs.Rewritten.{with_zero_byte}
 use Rattle.btf_rewrite_model.proofs.Appending.{room_append, ended_len}
 use Rattle.btf_plain.specs.Items.{param_words}
 use Rattle.btf_plain.specs.declared.items.BtfParam.{BtfParam}
 use Rattle.btf_table.specs.declared.table.changes.Changes.{Changes}
-use Rattle.btf_table.specs.Adding.{strings_end, Adds}
+use Rattle.btf_table.specs.Adding.{next_string_offset, Adds}
 use Rattle.btf_table.specs.Params.{lack_a_name}
 use Rattle.btf_table.proofs.Checks.{fault_after, fault_before}
 use Rattle.btf_table.proofs.NamedParams.{put_at}
@@ -159,8 +159,8 @@ named_next offset ps i new lt is =
 -- ---- what is appended
 
 -- the offset of the next text, after those that were appended
-pub end_after : (t : Table) (old new : Changes) (ts : List (List ℕ)) (rs : List Record) → Adds t old new ts rs → strings_end t new ≡ strings_end t old + texts_len ts
-end_after t old new ts rs adds = omega (arith, ap length adds.strings, length-append old.new_strings.items (flat_map ended ts), ended_len ts)
+pub end_after : (t : Table) (old new : Changes) (ts : List (List ℕ)) (rs : List Record) → Adds t old new ts rs → next_string_offset t new ≡ next_string_offset t old + texts_len ts
+end_after t old new ts rs adds = omega (arith, ap length adds.strings, length-append old.new_strings.items (flat_map with_zero_byte ts), ended_len ts)
 
 -- ---- prototypes whose parameters all have names
 

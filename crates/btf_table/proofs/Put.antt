@@ -10,7 +10,7 @@ use Rattle.btf_records.specs.declared.btf_type.BtfType.{BtfType}
 use Rattle.btf_table.specs.declared.table.Btf.TheInside.{Inside}
 use Rattle.btf_table.specs.declared.table.changes.Changes.{Changes}
 use Rattle.btf_table.specs.Btf.{table_of, IsConsistent}
-use Rattle.btf_table.specs.Changes.{put_all, put_back, replaced, each, AreInside, AreOf, changed, undone, Undoes}
+use Rattle.btf_table.specs.Changes.{put_all, put_back, before_changes, each, AreInside, AreChangesOf, changed, undone, Undoes}
 use Rattle.btf_table.specs.declared.table.changes.Undo.{Undo}
 
 -- replacing elements in order
@@ -95,7 +95,7 @@ pub changed_each : {X : Type 0} (f : BtfType → X) (cs : List (ℕ × BtfType))
 changed_each f cs xs ys inside =
     map-put f cs (xs ++ ys) ∙ ap (put_all (each f cs)) (map-append f xs ys) ∙ put_front f cs (map f xs) (map f ys) (subst (λ (n : ℕ). AreInside n cs) (sym (length-map xs f)) inside)
 
-module _ (b : Inside) (c : Changes) (strings : Vec ℕ Global) (types : Vec BtfType Global) (kept : IsConsistent b) (of : AreOf (table_of b) c) (added : strings.items ≡ b.strings.items ++ c.new_strings.items)
+module _ (b : Inside) (c : Changes) (strings : Vec ℕ Global) (types : Vec BtfType Global) (kept : IsConsistent b) (of : AreChangesOf (table_of b) c) (added : strings.items ≡ b.strings.items ++ c.new_strings.items)
     (put : types.items ≡ put_all c.types.items (b.types.items ++ c.new_types.items)) where
   abbrev after : Inside
   after = record b { strings = strings; types = types; type_len = c.type_len }
@@ -132,12 +132,12 @@ module _ (b : Inside) (c : Changes) (strings : Vec ℕ Global) (types : Vec BtfT
 
 -- ---- the elements before the changes
 
-pub replaced_append : {X : Type 0} (cs : List (ℕ × X)) (c : ℕ × X) (xs : List X) → replaced (cs ++ c ∷ []) xs ≡ replaced cs xs ++ (c.0, get_or (put_all cs xs) c.0 c.1) ∷ []
+pub replaced_append : {X : Type 0} (cs : List (ℕ × X)) (c : ℕ × X) (xs : List X) → before_changes (cs ++ c ∷ []) xs ≡ before_changes cs xs ++ (c.0, get_or (put_all cs xs) c.0 c.1) ∷ []
 replaced_append [] c xs = refl
 replaced_append (b ∷ cs) c xs = ap (λ ds. (b.0, get_or xs b.0 b.1) ∷ ds) (replaced_append cs c (set xs b.0 b.1))
 
 -- the replacements are reverted
-pub put_back_all : {X : Type 0} (cs : List (ℕ × X)) (xs : List X) → put_back (replaced cs xs) (put_all cs xs) ≡ xs
+pub put_back_all : {X : Type 0} (cs : List (ℕ × X)) (xs : List X) → put_back (before_changes cs xs) (put_all cs xs) ≡ xs
 put_back_all [] xs = refl
 put_back_all (c ∷ cs) xs = ap (λ ys. set ys c.0 (get_or xs c.0 c.1)) (put_back_all cs (set xs c.0 c.1)) ∙ set-set xs c.0 c.1 (get_or xs c.0 c.1) ∙ set-own xs c.0 c.1
   where
@@ -157,7 +157,7 @@ put_back_last [] c xs = refl
 put_back_last (b ∷ cs) c xs = ap (λ ys. set ys b.0 b.1) (put_back_last cs c xs)
 
 pub replaced_next : (cs old : List (ℕ × BtfType)) (types before : List BtfType) (k : ℕ) (d e : ℕ × BtfType) (x y : BtfType) → k < length cs → length cs ≡ length old → types ≡ put_all (take k old) before → drop k cs ≡ drop k old
-    → take k cs ≡ replaced (take k old) before → (get_or cs k d).0 < length types → y ≡ get_or types (get_or cs k d).0 x → take (k + 1) (set cs k ((get_or cs k e).0, y)) ≡ replaced (take (k + 1) old) before
+    → take k cs ≡ before_changes (take k old) before → (get_or cs k d).0 < length types → y ≡ get_or types (get_or cs k d).0 x → take (k + 1) (set cs k ((get_or cs k e).0, y)) ≡ before_changes (take (k + 1) old) before
 replaced_next cs old types before k d e x y lt long put rest has inside is =
     let more : k + 1 ≡ suc k = omega arith in
     let lt_old : k < length old = omega (arith, lt, long) in
@@ -166,10 +166,10 @@ replaced_next cs old types before k d e x y lt long put rest has inside is =
     let here : c.0 < length types = omega (arith, inside, same d) in
     let value : y ≡ get_or (put_all (take k old) before) c.0 c.1 = is ∙ ap (λ (n : ℕ). get_or types n x) (same d) ∙ get_or_default types c.0 x c.1 here ∙ ap (λ ts. get_or ts c.0 c.1) put in
     take_more_set cs k ((get_or cs k e).0, y) lt ∙ ap (λ zs. zs ++ ((get_or cs k e).0, y) ∷ []) has
-    ∙ ap (λ (n : ℕ). replaced (take k old) before ++ (n, y) ∷ []) (same e) ∙ ap (λ t. replaced (take k old) before ++ (c.0, t) ∷ []) value
-    ∙ sym (ap (λ (n : ℕ). replaced (take n old) before) more ∙ ap (λ zs. replaced zs before) (take-suc old k e lt_old) ∙ replaced_append (take k old) c before)
+    ∙ ap (λ (n : ℕ). before_changes (take k old) before ++ (n, y) ∷ []) (same e) ∙ ap (λ t. before_changes (take k old) before ++ (c.0, t) ∷ []) value
+    ∙ sym (ap (λ (n : ℕ). before_changes (take n old) before) more ∙ ap (λ zs. before_changes zs before) (take-suc old k e lt_old) ∙ replaced_append (take k old) c before)
 
-pub inside_replaced : (count : ℕ) (cs : List (ℕ × BtfType)) (xs : List BtfType) → AreInside count cs → AreInside count (replaced cs xs)
+pub inside_replaced : (count : ℕ) (cs : List (ℕ × BtfType)) (xs : List BtfType) → AreInside count cs → AreInside count (before_changes cs xs)
 inside_replaced count [] xs within = tt
 inside_replaced count (c ∷ cs) xs within = (within.0, inside_replaced count cs (set xs c.0 c.1) within.1)
 
@@ -182,13 +182,13 @@ map-put_back f (c ∷ cs) ts = map-set f (put_back cs ts) c.0 c.1 ∙ ap (λ xs.
 front_is : {X : Type 0} (xs ys : List X) (n : ℕ) → n ≡ length xs → take n (xs ++ ys) ≡ xs
 front_is xs ys n is = ap (λ (m : ℕ). take m (xs ++ ys)) is ∙ take-append_seam xs ys
 
-taken_back : {X : Type 0} (f : BtfType → X) (cs : List (ℕ × BtfType)) (xs ys : List BtfType) (n : ℕ) → n ≡ length xs → take n (put_back (each f (replaced cs (xs ++ ys))) (map f (put_all cs (xs ++ ys)))) ≡ map f xs
+taken_back : {X : Type 0} (f : BtfType → X) (cs : List (ℕ × BtfType)) (xs ys : List BtfType) (n : ℕ) → n ≡ length xs → take n (put_back (each f (before_changes cs (xs ++ ys))) (map f (put_all cs (xs ++ ys)))) ≡ map f xs
 taken_back f cs xs ys n is =
-    ap (take n) (sym (map-put_back f (replaced cs (xs ++ ys)) (put_all cs (xs ++ ys))) ∙ ap (map f) (put_back_all cs (xs ++ ys))) ∙ take-map f n (xs ++ ys) ∙ ap (map f) (front_is xs ys n is)
+    ap (take n) (sym (map-put_back f (before_changes cs (xs ++ ys)) (put_all cs (xs ++ ys))) ∙ ap (map f) (put_back_all cs (xs ++ ys))) ∙ take-map f n (xs ++ ys) ∙ ap (map f) (front_is xs ys n is)
 
 -- With the replaced elements the changes can be reverted.
-pub undoes : (b : Inside) (c : Changes) (strings : Vec ℕ Global) (types : Vec BtfType Global) → IsConsistent b → AreOf (table_of b) c → strings.items ≡ b.strings.items ++ c.new_strings.items → types.items ≡ put_all c.types.items (b.types.items ++ c.new_types.items)
-    → (undo : Undo) → undo.types.items ≡ replaced c.types.items (b.types.items ++ c.new_types.items) → undo.string_len ≡ length b.strings.items → undo.count ≡ length b.types.items → undo.type_len ≡ b.type_len
+pub undoes : (b : Inside) (c : Changes) (strings : Vec ℕ Global) (types : Vec BtfType Global) → IsConsistent b → AreChangesOf (table_of b) c → strings.items ≡ b.strings.items ++ c.new_strings.items → types.items ≡ put_all c.types.items (b.types.items ++ c.new_types.items)
+    → (undo : Undo) → undo.types.items ≡ before_changes c.types.items (b.types.items ++ c.new_types.items) → undo.string_len ≡ length b.strings.items → undo.count ≡ length b.types.items → undo.type_len ≡ b.type_len
     → Undoes undo (table_of (record b { strings = strings; types = types; type_len = c.type_len })) (table_of b)
 undoes b c strings types kept of added put undo old string_len count type_len =
     let t : Table = table_of b in
@@ -198,10 +198,10 @@ undoes b c strings types kept of added put undo old string_len count type_len =
           ap (λ (xs : List ℕ). record t { strings = xs; records = take undo.count (put_back (each record_of undo.types.items) (map record_of types.items)); fallbacks = take undo.count (put_back (each fallback_of undo.types.items) (map fallback_of types.items)) })
           (ap (take undo.string_len) added ∙ front_is b.strings.items c.new_strings.items undo.string_len string_len)
           ∙ ap (λ (rs : List Record). record t { records = rs; fallbacks = take undo.count (put_back (each fallback_of undo.types.items) (map fallback_of types.items)) })
-          (ap (λ ds. take undo.count (put_back (each record_of ds) (map record_of types.items))) old ∙ ap (λ ts. take undo.count (put_back (each record_of (replaced c.types.items all)) (map record_of ts))) put
+          (ap (λ ds. take undo.count (put_back (each record_of ds) (map record_of types.items))) old ∙ ap (λ ts. take undo.count (put_back (each record_of (before_changes c.types.items all)) (map record_of ts))) put
           ∙ taken_back record_of c.types.items b.types.items c.new_types.items undo.count count)
           ∙ ap (λ (fs : List (Option Fallback)). record t { fallbacks = fs })
-          (ap (λ ds. take undo.count (put_back (each fallback_of ds) (map fallback_of types.items))) old ∙ ap (λ ts. take undo.count (put_back (each fallback_of (replaced c.types.items all)) (map fallback_of ts))) put
+          (ap (λ ds. take undo.count (put_back (each fallback_of ds) (map fallback_of types.items))) old ∙ ap (λ ts. take undo.count (put_back (each fallback_of (before_changes c.types.items all)) (map fallback_of ts))) put
           ∙ taken_back fallback_of c.types.items b.types.items c.new_types.items undo.count count);
       ids = subst (AreInside (length (map record_of types.items))) (sym old)
           (inside_replaced (length (map record_of types.items)) c.types.items all (inside_more (length t.records) (length (map record_of types.items)) c.types.items

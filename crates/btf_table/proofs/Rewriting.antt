@@ -19,23 +19,27 @@ use Rattle.btf_model.proofs.Blobs.{same_table}
 use Rattle.btf_plain.specs.declared.error.BtfError.{BtfError}
 use Rattle.btf_plain.specs.Error.{MeetsOrNoMemory, refusal_of}
 use Rattle.btf_table.specs.PassStep.{Given, pass_on}
-use Rattle.btf_table.specs.Rewrites.{Rewrites, Sanitizes, NeedsAreGranted, KeepsMeaning, OfTables}
+use Rattle.btf_table.specs.Rewrites.{Rewrite, Rewrites, Sanitizes, NeedsAreGranted, KeepsMeaning, OfTables}
+
+-- the rewrite with these symbols and the arguments of its pass
+abbrev pub asked_by : Option KsymsIds → Given → Rewrite
+asked_by k given = record { policy = given.policy; ksyms = k; layout = given.layout }
 
 -- a pass over the table as it begins, after the step
-sanitized : {X : Type 0} (old new : Table) (k : Option KsymsIds) (given : Given) (answers : List FeatureAnswer) (r : Result X Refusal) → step_fault old k ≡ None → Sanitizes (pass_of given.policy old k given.layout answers) new r → Rewrites given.policy old k given.layout answers new r
+sanitized : {X : Type 0} (old new : Table) (k : Option KsymsIds) (given : Given) (answers : List FeatureAnswer) (r : Result X Refusal) → step_fault old k ≡ None → Sanitizes (pass_of given.policy old k given.layout answers) new r → Rewrites (asked_by k given) old answers new r
 sanitized old new k given answers (Ok x) step s = (record { step = step; ruled = s.0; table = s.1 }, s.2)
 sanitized old new k given answers (Err refusal) step s = inr (step, s)
 
-pub stepped_by : {X : Type 0} (old t new : Table) (k : Option KsymsIds) (given : Given) (answers : List FeatureAnswer) (r : Result X Refusal) → step_fault old k ≡ None → t ≡ begun old k → Sanitizes (pass_on t given answers) new r → Rewrites given.policy old k given.layout answers new r
+pub stepped_by : {X : Type 0} (old t new : Table) (k : Option KsymsIds) (given : Given) (answers : List FeatureAnswer) (r : Result X Refusal) → step_fault old k ≡ None → t ≡ begun old k → Sanitizes (pass_on t given answers) new r → Rewrites (asked_by k given) old answers new r
 stepped_by old t new k given answers r step is s = sanitized old new k given answers r step (subst (λ u. Sanitizes (pass_on u given answers) new r) is s)
 
 -- the same for the result of a call
 pub rewrites_by : {X Y : Type 0} (view : X → Y) (r : Result X BtfError) (old t new : Table) (k : Option KsymsIds) (given : Given) (answers : List FeatureAnswer) → step_fault old k ≡ None → t ≡ begun old k
-    → MeetsOrNoMemory view r (Sanitizes (pass_on t given answers) new) → MeetsOrNoMemory view r (Rewrites given.policy old k given.layout answers new)
-rewrites_by view (Ok x) old t new k given answers step is told = stepped_by old t new k given answers (Ok (view x)) step is told
-rewrites_by {X} {Y} view (Err e) old t new k given answers step is told = refused (refusal_of e) told
+    → MeetsOrNoMemory view r (Sanitizes (pass_on t given answers) new) → MeetsOrNoMemory view r (Rewrites (asked_by k given) old answers new)
+rewrites_by view (Ok x) old t new k given answers step is reported = stepped_by old t new k given answers (Ok (view x)) step is reported
+rewrites_by {X} {Y} view (Err e) old t new k given answers step is reported = refused (refusal_of e) reported
   where
-    refused : (o : Option Refusal) → IfSome o (λ f. Sanitizes {X = Y} (pass_on t given answers) new (Err f)) → IfSome o (λ f. Rewrites {X = Y} given.policy old k given.layout answers new (Err f))
+    refused : (o : Option Refusal) → IfSome o (λ f. Sanitizes {X = Y} (pass_on t given answers) new (Err f)) → IfSome o (λ f. Rewrites {X = Y} (asked_by k given) old answers new (Err f))
     refused None none = tt
     refused (Some f) one = stepped_by {X = Y} old t new k given answers (Err f) step is one
 
@@ -47,7 +51,7 @@ pub record Keeps (policy : FillPolicy) (old : Table) (k : Option KsymsIds) (answ
   pub meaning : KeepsMeaning old new
 
 -- a rewrite that succeeds guarantees this
-pub keeps_of : {X : Type 0} (old new : Table) (k : Option KsymsIds) (given : Given) (answers : List FeatureAnswer) (x : X) → Rewrites given.policy old k given.layout answers new (Ok x) → Keeps given.policy old k answers new
+pub keeps_of : {X : Type 0} (old new : Table) (k : Option KsymsIds) (given : Given) (answers : List FeatureAnswer) (x : X) → Rewrites (asked_by k given) old answers new (Ok x) → Keeps given.policy old k answers new
 keeps_of old new k given answers x h = record {
   granted = suffice given.policy old new k given.layout answers h.0 h.1;
   meaning = record {

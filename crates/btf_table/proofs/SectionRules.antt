@@ -20,7 +20,7 @@ use Rattle.btf_rewrite_model.specs.declared.feature.FeatureAnswer.{FeatureAnswer
 use Rattle.btf_rewrite_model.specs.declared.feature.FillPolicy.{FillPolicy}
 use Rattle.btf_rewrite_model.specs.Made as model
 use Rattle.btf_rewrite_model.specs.Made.{entries, record_at, kind_at, byte_int, static_var}
-use Rattle.btf_rewrite_model.specs.Checks.{Check, first_fault, is_read, has_room, have_room, fits, record_len}
+use Rattle.btf_rewrite_model.specs.Checks.{Check, first_fault, name_is_read, has_room, have_room, fits, record_len}
 use Rattle.btf_rewrite_model.specs.Pass.{Pass, has, name_of, name_checks, sized_asks_zero, unsized_asks_zero, renaming, section_size, size_by_name, is_unsized, is_zero_or, is_positive, gets_filler, makes_filler, least, filler_type_text, filler_text, filler, filler_offset, texts, texts_len, added, free_id, offset_at, type_len_at, wants_member_type, asks, asks_by, asks_below, data_sec_asks}
 use Rattle.btf_rewrite_model.specs.Rule as rule
 use Rattle.btf_rewrite_model.specs.Rule.{becomes_by, ruled_below, new_name, name_or, completed, placed, filler_id, entry_members, member_name}
@@ -35,26 +35,26 @@ use Rattle.btf_plain.specs.declared.error.BtfError.{BtfError}
 use Rattle.btf_records.specs.BtfType.{record_of, fallback_of}
 use Rattle.btf_records.specs.declared.btf_type.BtfType.{BtfType}
 use Rattle.btf_records.specs.declared.btf_type.BtfType.TheVariants.{DataSec}
-use Rattle.btf_table.specs.Adding.{strings_end, next_id, Adds}
+use Rattle.btf_table.specs.Adding.{next_string_offset, next_id, Adds}
 use Rattle.btf_table.specs.Checked.{checked}
 use Rattle.btf_table.specs.Btf.{IsType}
 use Rattle.btf_table.specs.PassStep.{IsHere, IsRuled, Rules, growth, HasAsked, AsksUpTo}
-use Rattle.btf_table.specs.SectionStep.{HasNewName, filled, final_size, is_fillable, asks_zero}
+use Rattle.btf_table.specs.SectionStep.{HasNewName, filler_section, final_size, is_fillable, asks_zero}
 use Rattle.btf_table.specs.declared.sanitize.made.Made.{Made}
 use Rattle.btf_table.proofs.Adding.{adds_none, adds_then}
 use Rattle.btf_table.proofs.Checks.{fault_after, fault_before, fault_third, checked_ok, checked_err}
 use Rattle.btf_table.proofs.Prototypes.{end_after}
 use Rattle.btf_plain.proofs.Refused.{handed_on}
 use Rattle.btf_table.proofs.SectionItems.{id_stays}
-use Rattle.btf_table.specs.Features.{Resolver, Asks, Called, IsFurther}
+use Rattle.btf_table.specs.Features.{Resolver, AsksResolver, Called, IsFurther}
 use Rattle.btf_table.proofs.PassAsking.{asks_called, asks_further, further_none, asked_none, asked_more, asked_kept}
 use Rattle.btf_table.proofs.PassRules.{record_there, kind_there, becomes_there, fault_there, texts_there, added_there, falls_back_there, made_on, wants_none, grown_by, same_len}
 
 -- ---- results
 
 -- an error is passed on, and is the refusal of the same tests
-pub told_on : {X Y U : Type 0} (view : X → Y) (e : BtfError) (r : Result X BtfError) (f : Option Refusal) (u : U) (y : Y) → IsErrAnd r (λ x. x ≡ e) → IfSome (refusal_of e) (λ refusal. ◌≡◌ {A = Result U Refusal} (Err refusal) (checked f u)) → IsOrNoMemory view r (checked f y)
-told_on view e r f u y err is =
+pub reported_on : {X Y U : Type 0} (view : X → Y) (e : BtfError) (r : Result X BtfError) (f : Option Refusal) (u : U) (y : Y) → IsErrAnd r (λ x. x ≡ e) → IfSome (refusal_of e) (λ refusal. ◌≡◌ {A = Result U Refusal} (Err refusal) (checked f u)) → IsOrNoMemory view r (checked f y)
+reported_on view e r f u y err is =
     handed_on view e r (λ a. a ≡ checked f y) err (IfSome_then _ is (λ refusal same. sym (ap (λ (o : Option Refusal). checked o y) (checked_err f u refusal same))))
 
 -- a type that is made, or a refusal by these tests
@@ -67,18 +67,18 @@ ruled_answer p id b before after f x (Err e) words fallback refused rule = IfSom
 
 -- ---- what a DATASEC asks for, and whether it gets the filler
 
-read_name : (name : Result (List ℕ) Refusal) (rest : List Check) → first_fault (is_read name ∷ rest) ≡ None → (is_read name ≡ None) × (first_fault rest ≡ None)
+read_name : (name : Result (List ℕ) Refusal) (rest : List Check) → first_fault (name_is_read name ∷ rest) ≡ None → (name_is_read name ≡ None) × (first_fault rest ≡ None)
 read_name (Ok name) rest passed = (refl, passed)
 read_name (Err refusal) rest passed = absurd (none-some refusal (sym passed))
 
 -- the size of a section is tested after its name is read
-size_faults : (name : Result (List ℕ) Refusal) (size : Option ℕ) (rest : List Check) (refusal : Refusal) → is_read name ≡ None → first_fault (is_read name ∷ is_sized size name ∷ []) ≡ Some refusal
+size_faults : (name : Result (List ℕ) Refusal) (size : Option ℕ) (rest : List Check) (refusal : Refusal) → name_is_read name ≡ None → first_fault (name_is_read name ∷ is_sized size name ∷ []) ≡ Some refusal
     → (first_fault (is_sized size name ∷ rest) ≡ Some refusal) × (is_positive size ≡ false)
 size_faults (Err other) size rest refusal read faults = absurd (none-some other (sym read))
 size_faults (Ok name) None rest refusal read faults = (faults, refl)
 size_faults (Ok name) (Some size) rest refusal read faults = absurd (none-some refusal faults)
 
-size_passes : (name : Result (List ℕ) Refusal) (size : Option ℕ) (n : ℕ) → is_read name ≡ None → first_fault (is_read name ∷ is_sized size name ∷ []) ≡ None → n ≡ unwrap_or size 0 → size ≡ Some n
+size_passes : (name : Result (List ℕ) Refusal) (size : Option ℕ) (n : ℕ) → name_is_read name ≡ None → first_fault (name_is_read name ∷ is_sized size name ∷ []) ≡ None → n ≡ unwrap_or size 0 → size ≡ Some n
 size_passes (Err other) size n read passed is = absurd (none-some other (sym read))
 size_passes (Ok name) None n read passed is = absurd (none-some _ (sym passed))
 size_passes (Ok name) (Some size) n read passed is = ap (λ (m : ℕ). Some m) (sym is)
@@ -142,7 +142,7 @@ module _ (p : Pass) (id : ℕ) (r : Record) (there : IsType p.table id (DataSec 
       ∙ ap (λ (b : Bool). has p features.DataSec && ((fills_sized p.policy && not (r.third == 0) && has_no_entries r && false) || b)) (ends before (name_of p id) faults)
       ∙ never (has p features.DataSec) (fills_sized p.policy && not (r.third == 0) && has_no_entries r))
     where
-      ends : (before : Bool) (name : Result (List ℕ) Refusal) → first_fault (is_read name ∷ have_room (offset_at p id) (renaming p name)) ≡ Some refusal
+      ends : (before : Bool) (name : Result (List ℕ) Refusal) → first_fault (name_is_read name ∷ have_room (offset_at p id) (renaming p name)) ≡ Some refusal
           → (before && is_none (first_fault (have_room (offset_at p id) (renaming p name))) && is_positive (size_by_name p name)) ≡ false
       ends true (Ok name) faulty = ap (λ (o : Option Refusal). is_none o && is_positive (size_by_name p (Ok name))) faulty
       ends false (Ok name) faulty = refl
@@ -179,14 +179,14 @@ module _ (p : Pass) (id : ℕ) (r : Record) (there : IsType p.table id (DataSec 
       fault_there p id (DataSec r) (Some kinds.DataSec) there kind ∙ fault_after (name_checks p id) (rest_by (has p features.DataSec) (r.third == 0)) passed
       ∙ ap (λ (b : Bool). first_fault (rest_by b (r.third == 0))) has_it ∙ ap (λ (b : Bool). first_fault (rest_by granted b)) is
 
-  pub size_fault : (refusal : Refusal) → first_fault (name_checks p id) ≡ None → has p features.DataSec ≡ true → (r.third == 0) ≡ true → first_fault (is_read (name_of p id) ∷ is_sized (section_size p id) (name_of p id) ∷ []) ≡ Some refusal
+  pub size_fault : (refusal : Refusal) → first_fault (name_checks p id) ≡ None → has p features.DataSec ≡ true → (r.third == 0) ≡ true → first_fault (name_is_read (name_of p id) ∷ is_sized (section_size p id) (name_of p id) ∷ []) ≡ Some refusal
       → (asks p id ≡ features.DataSec ∷ []) × (fault p id ≡ Some refusal)
   size_fault refusal passed granted unsized faults =
       let read = read_name (name_of p id) _ passed in
       let is = size_faults (name_of p id) (section_size p id) ((if makes_filler p id then filler_checks p id else []) ++ flat_map (entry_checks p) (entries r.tail) ++ growth_checks p id) refusal read.0 faults in
       (unknown_asks unsized is.1, fault_by true true passed granted unsized ∙ is.0)
 
-  pub size_known : (size : ℕ) → first_fault (name_checks p id) ≡ None → first_fault (is_read (name_of p id) ∷ is_sized (section_size p id) (name_of p id) ∷ []) ≡ None → size ≡ unwrap_or (section_size p id) 0 → section_size p id ≡ Some size
+  pub size_known : (size : ℕ) → first_fault (name_checks p id) ≡ None → first_fault (name_is_read (name_of p id) ∷ is_sized (section_size p id) (name_of p id) ∷ []) ≡ None → size ≡ unwrap_or (section_size p id) 0 → section_size p id ≡ Some size
   size_known size passed known is = size_passes (name_of p id) (section_size p id) size (read_name (name_of p id) _ passed).0 known is
 
 -- ---- one that gets no filler
@@ -247,7 +247,7 @@ module _ (p : Pass) (id : ℕ) (r : Record) (name : ℕ) (before now : Made) (n 
       ∙ sym (becomes_if true false granted sized ∙ ap (λ (b : Bool). if b then rule.filled p id r.third r else record r { name = new_name p id r }) unfilled)) (ap (λ (x : Record). length x.tail) is) none)
 
   abbrev completed_by : ℕ → Bool → Record
-  completed_by size b = if b then rule.filled p id (max size 1) r else model.data_sec (new_name p id r) size (vlen r.info) (map (placed p) (entries r.tail))
+  completed_by size b = if b then rule.filled p id (max size 1) r else model.made_data_sec (new_name p id r) size (vlen r.info) (map (placed p) (entries r.tail))
 
   completed_if : (b : Bool) (size : ℕ) → gets_filler p id ≡ b → section_size p id ≡ Some size → completed_is ≡ completed_by size b
   completed_if b size fills known = ap (λ (o : Option ℕ). completed p id (unwrap_or o 0) r) known ∙ ap (completed_by size) fills
@@ -261,7 +261,7 @@ module _ (p : Pass) (id : ℕ) (r : Record) (name : ℕ) (before now : Made) (n 
       ∙ ap (λ (c : Bool). first_fault ((if makes_filler p id then filler_checks p id else []) ++ flat_map (entry_checks p) (entries r.tail) ++ (if c then fits (type_len_at p id + sum_by record_len (added p id)) 12 ∷ [] else []))) fills
 
   pub laid_answer : (size : ℕ) (result : Result (Option BtfType) BtfError) → has p features.DataSec ≡ true → (r.third == 0) ≡ true → gets_filler p id ≡ false → section_size p id ≡ Some size
-      → IsOrNoMemory (λ new. record_of (unwrap_or new (DataSec r))) result (checked (first_fault (flat_map (entry_checks p) (entries r.tail))) (model.data_sec name size (vlen r.info) (map (placed p) (entries r.tail))))
+      → IsOrNoMemory (λ new. record_of (unwrap_or new (DataSec r))) result (checked (first_fault (flat_map (entry_checks p) (entries r.tail))) (model.made_data_sec name size (vlen r.info) (map (placed p) (entries r.tail))))
       → IfOk result (λ new. fallback_of (unwrap_or new (DataSec r)) ≡ None) → MeetsOrNoMemory (λ new. unwrap_or new (DataSec r)) result (Rules p id (DataSec r) before now)
   laid_answer size result granted unsized unfilled known words fallback =
       let makes : makes_filler p id ≡ false = ap (λ (b : Bool). b && (least (gets_filler p) id == id)) unfilled in
@@ -270,7 +270,7 @@ module _ (p : Pass) (id : ℕ) (r : Record) (name : ℕ) (before now : Made) (n 
       ∙ ap (λ (b : Bool). first_fault ((if b then filler_checks p id else []) ++ flat_map (entry_checks p) (entries r.tail) ++ [])) makes ∙ ap first_fault (append-nil (flat_map (entry_checks p) (entries r.tail))) in
       ruled_answer p id (DataSec r) before now _ _ result words fallback (λ refusal is. faults ∙ is)
       (λ new passed is none. unfilled_ruled new unfilled (faults ∙ passed)
-      (is ∙ ap (λ (m : ℕ). model.data_sec m size (vlen r.info) (map (placed p) (entries r.tail))) (sym n.name_is) ∙ sym (becomes_if true true granted unsized ∙ completed_if false size unfilled known))
+      (is ∙ ap (λ (m : ℕ). model.made_data_sec m size (vlen r.info) (map (placed p) (entries r.tail))) (sym n.name_is) ∙ sym (becomes_if true true granted unsized ∙ completed_if false size unfilled known))
       (ap (λ (x : Record). length x.tail) is ∙ ap length (flat_map-map model.entry_words (placed p) (entries r.tail)) ∙ entries_len (λ e. model.entry_words (placed p e)) (λ e. refl) (vlen r.info) r.tail n.tail) none)
 
 -- ---- one that gets the filler
@@ -303,7 +303,7 @@ module _ (p : Pass) (id : ℕ) (r : Record) (name : ℕ) (before now : Made) (n 
       let empty : has_no_entries r ≡ true = ap has_no_entries (sym (record_there p.table id (DataSec r) n.there)) ∙ parts.empty in
       no_words r.tail (n.tail ∙ ap (λ (m : ℕ). 3 * m) (eqb-true (vlen r.info) 0 empty))
 
-  offset_is : filler_offset p id ≡ strings_end p.table now.changes
+  offset_is : filler_offset p id ≡ next_string_offset p.table now.changes
   offset_is = ap (λ (o : ℕ). o + texts_len (renaming p (name_of p id))) n.here.offset ∙ sym (end_after p.table before.changes now.changes (renaming p (name_of p id)) [] n.adds)
 
   free_is : free_id p id ≡ next_id p.table now.changes
@@ -317,10 +317,10 @@ module _ (p : Pass) (id : ℕ) (r : Record) (name : ℕ) (before now : Made) (n 
       has_room offset filler_type_text ∷ fits used (record_len (byte_int 0)) ∷ has_room (offset + length filler_type_text + 1) filler_text ∷ fits (used + record_len (byte_int 0)) (record_len (static_var 0 0)) ∷ []
 
   abbrev checks_now : List Check
-  checks_now = checks_at (strings_end p.table now.changes) now.changes.type_len
+  checks_now = checks_at (next_string_offset p.table now.changes) now.changes.type_len
 
   checks_are : filler_checks p id ≡ checks_now
-  checks_are = ap (λ (o : ℕ). checks_at o (type_len_at p id)) offset_is ∙ ap (checks_at (strings_end p.table now.changes)) type_len_is
+  checks_are = ap (λ (o : ℕ). checks_at o (type_len_at p id)) offset_is ∙ ap (checks_at (next_string_offset p.table now.changes)) type_len_is
 
   abbrev number_of : ℕ → ℕ
   number_of k = free_id p k + 1
@@ -344,11 +344,11 @@ module _ (p : Pass) (id : ℕ) (r : Record) (name : ℕ) (before now : Made) (n 
   makes_new none = makes_first (gets_filler p) number_of id (subst (MadeBelow (gets_filler p) number_of id) none made_before) ∙ fills
 
   pub filler_new : (after : Made) (number : ℕ) → now.filler ≡ None → first_fault checks_now ≡ None → number ≡ next_id p.table now.changes + 1
-      → Adds p.table now.changes after.changes (filler_type_text ∷ filler_text ∷ []) (filler (strings_end p.table now.changes) (next_id p.table now.changes)) → after.filler ≡ Some (next_id p.table now.changes + 1) → HasFiller p id now after number
+      → Adds p.table now.changes after.changes (filler_type_text ∷ filler_text ∷ []) (filler (next_string_offset p.table now.changes) (next_id p.table now.changes)) → after.filler ≡ Some (next_id p.table now.changes + 1) → HasFiller p id now after number
   filler_new after number none passed is adds made =
       let m : MadeBelow (gets_filler p) number_of id None = subst (MadeBelow (gets_filler p) number_of id) none made_before in
       let makes : makes_filler p id ≡ true = makes_new none in
-      let records : filler (filler_offset p id) (free_id p id) ≡ filler (strings_end p.table now.changes) (next_id p.table now.changes) = ap (λ (o : ℕ). filler o (free_id p id)) offset_is ∙ ap (filler (strings_end p.table now.changes)) free_is in
+      let records : filler (filler_offset p id) (free_id p id) ≡ filler (next_string_offset p.table now.changes) (next_id p.table now.changes) = ap (λ (o : ℕ). filler o (free_id p id)) offset_is ∙ ap (filler (next_string_offset p.table now.changes)) free_is in
       record {
         checks = ap (λ (b : Bool). first_fault (if b then filler_checks p id else [])) makes ∙ ap first_fault checks_are ∙ passed;
         adds = subst (λ (b : Bool). Adds p.table now.changes after.changes (if b then filler_type_text ∷ filler_text ∷ [] else []) (if b then filler (filler_offset p id) (free_id p id) else [])) (sym makes)
@@ -363,7 +363,7 @@ module _ (p : Pass) (id : ℕ) (r : Record) (name : ℕ) (before now : Made) (n 
 
   -- which of the two it is
   pub filler_is : (after : Made) (number : ℕ) → ((k : ℕ) → now.filler ≡ Some k → (k ≡ number) × (after ≡ now)) → (now.filler ≡ None → ◌≡◌ {A = Result ℕ Refusal} (Ok number) (checked (first_fault checks_now) (next_id p.table now.changes + 1)))
-      → (now.filler ≡ None → Adds p.table now.changes after.changes (filler_type_text ∷ filler_text ∷ []) (filler (strings_end p.table now.changes) (next_id p.table now.changes))) → (now.filler ≡ None → after.filler ≡ Some (next_id p.table now.changes + 1))
+      → (now.filler ≡ None → Adds p.table now.changes after.changes (filler_type_text ∷ filler_text ∷ []) (filler (next_string_offset p.table now.changes) (next_id p.table now.changes))) → (now.filler ≡ None → after.filler ≡ Some (next_id p.table now.changes + 1))
       → HasFiller p id now after number
   filler_is after number old answer adds made =
       elim now.filler as (λ (o : Option ℕ). now.filler ≡ o → HasFiller p id now after number) [
@@ -430,7 +430,7 @@ module _ (p : Pass) (id : ℕ) (r : Record) (name : ℕ) (before now : Made) (n 
           (adds_then p.table before.changes now.changes after.changes (renaming p (name_of p id)) (if makes_filler p id then filler_type_text ∷ filler_text ∷ [] else []) []
           (if makes_filler p id then filler (filler_offset p id) (free_id p id) else []) n.adds h.adds))
 
-      pub filled_ruled : (new : BtfType) → fits after.changes.type_len 12 ≡ None → record_of new ≡ filled name size number → fallback_of new ≡ None → after.names ≡ now.names → after.member_type ≡ now.member_type
+      pub filled_ruled : (new : BtfType) → fits after.changes.type_len 12 ≡ None → record_of new ≡ filler_section name size number → fallback_of new ≡ None → after.names ≡ now.names → after.member_type ≡ now.member_type
           → IsRuled p id (DataSec r) before (record after { changes = record after.changes { type_len = after.changes.type_len + 12 } }) new
       filled_ruled new fits_in is none names member_type =
           let all = has_all in
@@ -438,7 +438,7 @@ module _ (p : Pass) (id : ℕ) (r : Record) (name : ℕ) (before now : Made) (n 
           let entry : ℕ → model.Entry = λ k. record { type = k; offset = 0; size = max size 1 } in
           record {
             passed = grown_faults ∙ ap (λ (o : Check). first_fault (o ∷ [])) fits_in;
-            record_is = is ∙ ap (λ (k : ℕ). model.data_sec name (max size 1) 1 (entry k ∷ [])) (sym h.number_is) ∙ ap (λ (m : ℕ). model.data_sec m (max size 1) 1 (entry (filler_id p id) ∷ [])) (sym n.name_is)
+            record_is = is ∙ ap (λ (k : ℕ). model.made_data_sec name (max size 1) 1 (entry k ∷ [])) (sym h.number_is) ∙ ap (λ (m : ℕ). model.made_data_sec m (max size 1) 1 (entry (filler_id p id) ∷ [])) (sym n.name_is)
                 ∙ sym (becomes_there p id (DataSec r) (Some kinds.DataSec) n.there n.kind ∙ filled_becomes);
             fallback_is = none ∙ sym (falls_back_there p id (DataSec r) (Some kinds.DataSec) n.there n.kind);
             len = ap record_len is ∙ sym (ap (λ (words : List ℕ). 4 * (3 + length words) + growth p id) tail_none ∙ ap (λ (b : Bool). 12 + (if b then 12 else 0)) fills);
@@ -508,11 +508,11 @@ module _ (p : Pass) (id : ℕ) (r : Record) (there : IsType p.table id (DataSec 
   old_name = text_at p.table.strings r.name
 
   abbrev name_tests : ℕ → List Check
-  name_tests offset = is_read old_name ∷ have_room offset (renaming p old_name)
+  name_tests offset = name_is_read old_name ∷ have_room offset (renaming p old_name)
 
   name_checks_are : (offset : ℕ) → offset_at p id ≡ offset → first_fault (name_checks p id) ≡ first_fault (name_tests offset)
   name_checks_are offset at =
-      ap (λ (o : Result (List ℕ) Refusal). first_fault (is_read o ∷ have_room (offset_at p id) (renaming p o))) (section_name_is p id r there kind) ∙ ap (λ (o : ℕ). first_fault (name_tests o)) at
+      ap (λ (o : Result (List ℕ) Refusal). first_fault (name_is_read o ∷ have_room (offset_at p id) (renaming p o))) (section_name_is p id r there kind) ∙ ap (λ (o : ℕ). first_fault (name_tests o)) at
 
   pub name_refused : (offset : ℕ) (refusal : Refusal) → offset_at p id ≡ offset → first_fault (name_tests offset) ≡ Some refusal → (asks p id ≡ features.DataSec ∷ []) × (fault p id ≡ Some refusal)
   name_refused offset refusal at faults =
@@ -520,7 +520,7 @@ module _ (p : Pass) (id : ℕ) (r : Record) (there : IsType p.table id (DataSec 
       (unnamed_asks p id r there kind refusal checks, unnamed_faults p id r there kind refusal checks)
 
   pub has_new_name : (before now : Made) (name : ℕ) → length r.tail ≡ 3 * vlen r.info → IsHere p id before
-      → ◌≡◌ {A = Result ℕ Refusal} (Ok name) (checked (first_fault (name_tests (strings_end p.table before.changes))) (name_or r.name (strings_end p.table before.changes) (renaming p old_name)))
+      → ◌≡◌ {A = Result ℕ Refusal} (Ok name) (checked (first_fault (name_tests (next_string_offset p.table before.changes))) (name_or r.name (next_string_offset p.table before.changes) (renaming p old_name)))
       → Adds p.table before.changes now.changes (renaming p old_name) [] → now.names ≡ before.names → now.member_type ≡ before.member_type → now.filler ≡ before.filler → HasNewName p id r name before now
   has_new_name before now name tail here answer adds names member_type filler =
       let ok = checked_ok _ _ _ answer in
@@ -529,7 +529,7 @@ module _ (p : Pass) (id : ℕ) (r : Record) (there : IsType p.table id (DataSec 
         kind = kind;
         tail = tail;
         here = here;
-        passed = name_checks_are (strings_end p.table before.changes) here.offset ∙ ok.0;
+        passed = name_checks_are (next_string_offset p.table before.changes) here.offset ∙ ok.0;
         name_is = ap (λ (o : Result (List ℕ) Refusal). name_or r.name (offset_at p id) (renaming p o)) (section_name_is p id r there kind) ∙ ap (λ (o : ℕ). name_or r.name o (renaming p old_name)) here.offset ∙ sym ok.1;
         adds = subst (λ (o : Result (List ℕ) Refusal). Adds p.table before.changes now.changes (renaming p o) []) (sym (section_name_is p id r there kind)) adds;
         names = names;
@@ -538,7 +538,7 @@ module _ (p : Pass) (id : ℕ) (r : Record) (there : IsType p.table id (DataSec 
       }
 
   abbrev size_tests : Result (List ℕ) Refusal → Option Refusal
-  size_tests o = first_fault (is_read o ∷ is_sized (size_by_name p o) o ∷ [])
+  size_tests o = first_fault (name_is_read o ∷ is_sized (size_by_name p o) o ∷ [])
 
   pub size_refused : (refusal : Refusal) → first_fault (name_checks p id) ≡ None → has p features.DataSec ≡ true → (r.third == 0) ≡ true → size_tests old_name ≡ Some refusal → (asks p id ≡ features.DataSec ∷ []) × (fault p id ≡ Some refusal)
   size_refused refusal passed granted unsized faults = size_fault p id r there kind refusal passed granted unsized (ap size_tests (section_name_is p id r there kind) ∙ faults)
@@ -635,7 +635,7 @@ module _ (p : Pass) (id : ℕ) (r : Record) (there : IsType p.table id (DataSec 
 
 -- the predicate was called for what was asked
 pub zero_called : {F : Type 0} (step : F → BtfFeature → Bool → F → Type 0) (first : F) (policy : FillPolicy) (r : Record) (size : ℕ) (old new : Resolver F) (fills : Bool)
-    → (asks_zero policy r size ≡ false → (new ≡ old) × (fills ≡ is_fillable policy r)) → (asks_zero policy r size ≡ true → Asks step features.DataSecZero old (not fills) new) → Called step first old.answers old.predicate → Called step first new.answers new.predicate
+    → (asks_zero policy r size ≡ false → (new ≡ old) × (fills ≡ is_fillable policy r)) → (asks_zero policy r size ≡ true → AsksResolver step features.DataSecZero old (not fills) new) → Called step first old.answers old.predicate → Called step first new.answers new.predicate
 zero_called {F} step first policy r size old new fills quiet asked called =
     elim (asks_zero policy r size) as (λ (b : Bool). asks_zero policy r size ≡ b → Called step first new.answers new.predicate) [
       | true ↦ λ is. asks_called step first features.DataSecZero old new (not fills) (asked is) called
@@ -643,7 +643,7 @@ zero_called {F} step first policy r size old new fills quiet asked called =
     ] refl
 
 pub zero_further : {F : Type 0} (step : F → BtfFeature → Bool → F → Type 0) (policy : FillPolicy) (r : Record) (size : ℕ) (old new : Resolver F) (fills : Bool) → (asks_zero policy r size ≡ false → (new ≡ old) × (fills ≡ is_fillable policy r))
-    → (asks_zero policy r size ≡ true → Asks step features.DataSecZero old (not fills) new) → IsFurther old.answers new.answers
+    → (asks_zero policy r size ≡ true → AsksResolver step features.DataSecZero old (not fills) new) → IsFurther old.answers new.answers
 zero_further {F} step policy r size old new fills quiet asked =
     elim (asks_zero policy r size) as (λ (b : Bool). asks_zero policy r size ≡ b → IsFurther old.answers new.answers) [
       | true ↦ λ is. asks_further step features.DataSecZero old new (not fills) (asked is)

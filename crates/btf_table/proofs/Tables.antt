@@ -28,7 +28,7 @@ use Rattle.btf_table.specs.declared.table.Btf.TheInside.{Inside}
 use Rattle.btf_table.specs.declared.table.header.Header.{Header}
 use Rattle.btf_table.specs.Denied.{AllHaveKinds}
 use Rattle.btf_table.proofs.KnownKinds.{one_more_kind}
-use Rattle.btf_table.specs.Header.{header}
+use Rattle.btf_table.specs.Header.{model_header}
 use Rattle.btf_table.specs.Btf.{table_of, IsConsistent}
 
 -- the type section without id 0
@@ -113,7 +113,7 @@ header_of_fits order bytes fits = record {
   str_len = omega (arith, word_of_below order (slice 20 4 bytes) (IsBytes-take 4 (drop 20 bytes) (IsBytes-drop 20 bytes fits)));
 }
 
-pub read_header_fits : (order : Endianness) (bytes : List ℕ) (h : Header) → IsBytes bytes → header h ≡ header_of order bytes → HeaderFits (header h)
+pub read_header_fits : (order : Endianness) (bytes : List ℕ) (h : Header) → IsBytes bytes → model_header h ≡ header_of order bytes → HeaderFits (model_header h)
 read_header_fits order bytes h fits is = subst HeaderFits (sym is) (header_of_fits order bytes fits)
 
 pub length-slice : (at len : ℕ) (bytes : List ℕ) → at + len ≤ length bytes → length (slice at len bytes) ≡ len

@@ -4,13 +4,13 @@ use Rattle.std.specs.List.{flat_map, sum_by}
 use Rattle.btf_model.specs.Record.{Record}
 use Rattle.btf_model.specs.Table.{Table, section_limit, no_fallbacks}
 use Rattle.btf_rewrite_model.specs.Checks.{record_len}
-use Rattle.btf_rewrite_model.specs.Rewritten.{ended}
+use Rattle.btf_rewrite_model.specs.Rewritten.{with_zero_byte}
 use Rattle.btf_records.specs.BtfType.{record_of, fallback_of}
 use Rattle.btf_table.specs.declared.table.changes.Changes.{Changes}
 
 -- the offset of the next text
-abbrev pub strings_end : Table → Changes → ℕ
-strings_end t c = length t.strings + length c.new_strings.items
+abbrev pub next_string_offset : Table → Changes → ℕ
+next_string_offset t c = length t.strings + length c.new_strings.items
 
 -- the id of the next type
 abbrev pub next_id : Table → Changes → ℕ
@@ -18,13 +18,13 @@ next_id t c = length t.records + length c.new_types.items
 
 -- Both sections are within their limit. Each record except the first has at least 12 bytes, so ids have 32 bits.
 pub record HasRoom (t : Table) (c : Changes) : Type 0 where
-  pub strings : strings_end t c ≤ section_limit
+  pub strings : next_string_offset t c ≤ section_limit
   pub types : c.type_len ≤ section_limit
   pub ids : 12 * next_id t c ≤ c.type_len + 12
 
 -- These texts and records are appended, and nothing else is changed.
 pub record Adds (t : Table) (old new : Changes) (ts : List (List ℕ)) (rs : List Record) : Type 0 where
-  pub strings : new.new_strings.items ≡ old.new_strings.items ++ flat_map ended ts
+  pub strings : new.new_strings.items ≡ old.new_strings.items ++ flat_map with_zero_byte ts
   pub records : map record_of new.new_types.items ≡ map record_of old.new_types.items ++ rs
   pub fallbacks : map fallback_of new.new_types.items ≡ map fallback_of old.new_types.items ++ no_fallbacks rs
   pub types : new.types ≡ old.types

@@ -20,9 +20,9 @@ put_back [] xs = xs
 put_back (c ∷ cs) xs = set (put_back cs xs) c.0 c.1
 
 -- the element at each index before it was replaced
-abbrev pub replaced : {X : Type 0} → List (ℕ × X) → List X → List (ℕ × X)
-replaced [] xs = []
-replaced (c ∷ cs) xs = (c.0, get_or xs c.0 c.1) ∷ replaced cs (set xs c.0 c.1)
+abbrev pub before_changes : {X : Type 0} → List (ℕ × X) → List X → List (ℕ × X)
+before_changes [] xs = []
+before_changes (c ∷ cs) xs = (c.0, get_or xs c.0 c.1) ∷ before_changes cs (set xs c.0 c.1)
 
 -- what the function gives for each new type, with the type's id
 abbrev pub each : {X : Type 0} → (BtfType → X) → List (ℕ × BtfType) → List (ℕ × X)
@@ -42,7 +42,7 @@ changed t c = record t {
 
 -- The changes are for this table: their ids exist in it. After the changes both sections are within their limit, the
 -- type length is correct, and each record has a kind.
-pub record AreOf (t : Table) (c : Changes) : Type 0 where
+pub record AreChangesOf (t : Table) (c : Changes) : Type 0 where
   pub ids : AreInside (length t.records) c.types.items
   pub strings : length t.strings + length c.new_strings.items ≤ section_limit
   pub limit : c.type_len ≤ section_limit

@@ -13,8 +13,8 @@ abbrev pub AllHaveKinds : List Record → Type 0
 AllHaveKinds rs = (id : ℕ) (r : Record) → slice_get rs id ≡ Some r → (k : Kind) × (kind_of r.info ≡ Some k)
 
 -- each id is above 0 and below this number of types
-abbrev pub AreIds : ℕ → List ℕ → Type 0
-AreIds count ids = AllByRecursion (λ (id : ℕ). (0 < id) × (id < count)) ids
+abbrev pub AreTypeIds : ℕ → List ℕ → Type 0
+AreTypeIds count ids = AllByRecursion (λ (id : ℕ). (0 < id) × (id < count)) ids
 
 -- the records, with the records of these ids denied in order
 abbrev pub deny_all : List ℕ → List Record → List Record

@@ -1,13 +1,13 @@
 -- Features and answers of the code as values of the definitions, and what a call that asks for a feature does.
 use Rattle.std.specs.Prelude.{◌≡◌, ℕ, eqb, Bool, List, [], ◌∷◌, ◌++◌, map, Option, Some, None}
 use Rattle.std.specs.List.{IsDistinct}
-use Rattle.btf_rewrite_model.specs.Feature.{number, answer_to}
+use Rattle.btf_rewrite_model.specs.Feature.{feature_number, answer_to}
 use Rattle.btf_rewrite_model.specs.declared.feature.BtfFeature.{BtfFeature}
 use Rattle.btf_rewrite_model.specs.declared.feature.FeatureAnswer.{FeatureAnswer}
 
 -- the numbers of the features that are answered
 abbrev pub numbers : List FeatureAnswer → List ℕ
-numbers answers = map (λ (a : FeatureAnswer). number a.feature) answers
+numbers answers = map (λ (a : FeatureAnswer). feature_number a.feature) answers
 
 -- no two answers are for one feature
 abbrev pub AreDistinct : List FeatureAnswer → Type 0
@@ -28,9 +28,9 @@ AsksFor step feature None old answer new =
     × (new.answers ≡ old.answers ++ record { feature = feature; granted = answer } ∷ [])
 
 -- the same, by what was answered for the feature
-abbrev pub Asks : {F : Type 0} → (F → BtfFeature → Bool → F → Type 0) → BtfFeature → Resolver F → Bool → Resolver F
+abbrev pub AsksResolver : {F : Type 0} → (F → BtfFeature → Bool → F → Type 0) → BtfFeature → Resolver F → Bool → Resolver F
     → Type 0
-Asks step feature old answer new = AsksFor step feature (answer_to old.answers feature) old answer new
+AsksResolver step feature old answer new = AsksFor step feature (answer_to old.answers feature) old answer new
 
 -- The predicate was called for these features in order, and gave these answers. Only these calls changed its state from
 -- the first to the last one.
@@ -38,6 +38,11 @@ abbrev pub Called : {F : Type 0} → (F → BtfFeature → Bool → F → Type 0
 Called step before [] after = after ≡ before
 Called {F} step before (a ∷ answers) after =
     (mid : F) × step before a.feature a.granted mid × Called step mid answers after
+
+-- A predicate that was called as the first answers say is called as the second answers say.
+abbrev pub CallsFurther : {F : Type 0} → (F → BtfFeature → Bool → F → Type 0) → Resolver F → Resolver F → Type 0
+CallsFurther {F} step old new =
+    (first : F) → Called step first old.answers old.predicate → Called step first new.answers new.predicate
 
 -- these answers, followed by others
 abbrev pub IsFurther : List FeatureAnswer → List FeatureAnswer → Type 0

@@ -3,8 +3,8 @@ use Rattle.btf_model.specs.Blob as blob
 use Rattle.btf_table.specs.declared.table.header.Header.{Header}
 
 -- a header of the code as a header of the definitions
-abbrev pub header : Header → blob.Header
-header h = record {
+abbrev pub model_header : Header → blob.Header
+model_header h = record {
   magic = h.magic;
   version = h.version;
   flags = h.flags;

@@ -10,12 +10,12 @@ use Rattle.btf_model.specs.Refusal.{Refusal}
 use Rattle.btf_model.specs.Table.{Table}
 use Rattle.btf_rewrite_model.specs.Checks.{first_fault}
 use Rattle.btf_rewrite_model.specs.Made.{Entry, entries, entry_words, record_at, kind_at}
-use Rattle.btf_rewrite_model.specs.Ksyms.{is_func, symbol_type, appends_int, ksyms_entry_checks, laid_out, symbols, stepped, ksyms_fault, ksyms_table}
+use Rattle.btf_rewrite_model.specs.Ksyms.{is_func, symbol_type, appends_int, ksyms_entry_checks, laid_out, ksyms_entries, stepped, ksyms_fault, ksyms_table}
 use Rattle.btf_rewrite_model.specs.declared.ksyms_ids.KsymsIds.{KsymsIds}
 use Rattle.btf_plain.specs.declared.items.DataSecEntry.{DataSecEntry}
 use Rattle.btf_records.specs.BtfType.{record_of, fallback_of}
 use Rattle.btf_records.specs.declared.btf_type.BtfType.{BtfType}
-use Rattle.btf_table.specs.Changes.{put_all, each, AreInside, AreOf, changed}
+use Rattle.btf_table.specs.Changes.{put_all, each, AreInside, AreChangesOf, changed}
 use Rattle.btf_table.specs.declared.table.changes.Changes.{Changes}
 use Rattle.btf_table.specs.declared.sanitize.ksyms.Step.{Step}
 use Rattle.btf_table.specs.declared.sanitize.ksyms.Target.{Target}
@@ -26,8 +26,8 @@ abbrev pub ksyms_ids : ℕ → Option ℕ → KsymsIds
 ksyms_ids datasec placeholder = record { datasec_id = datasec; placeholder_id = placeholder }
 
 -- what the step changes symbols to
-abbrev pub target_of : Table → Option ℕ → Target
-target_of t placeholder = record {
+abbrev pub symbol_target : Table → Option ℕ → Target
+symbol_target t placeholder = record {
   symbol_type = symbol_type t placeholder;
   appends_int = appends_int t placeholder;
   placeholder = option_map (λ (id : ℕ). record { id = id; name_offset = (record_at t id).name }) placeholder;
@@ -41,8 +41,8 @@ laid_out_anew t placeholder r = record r {
 }
 
 -- an entry of the code as an entry of the definitions
-abbrev pub entry : DataSecEntry → Entry
-entry e = record { type = e.btf_type; offset = e.offset; size = e.size }
+abbrev pub model_entry : DataSecEntry → Entry
+model_entry e = record { type = e.btf_type; offset = e.offset; size = e.size }
 
 -- the prototype of a FUNC
 abbrev pub prototype_of : Table → ℕ → Option ℕ
@@ -54,13 +54,13 @@ is_this (Some prototype) id = prototype == id
 is_this None id = false
 
 -- the set has the id
-abbrev pub has : BTreeSet ℕ → ℕ → Bool
-has set id = ordered.contains nat_cmp set id
+abbrev pub has_id : BTreeSet ℕ → ℕ → Bool
+has_id set id = ordered.contains nat_cmp set id
 
 -- the sets have the ids of these entries, and the prototypes of the functions among them
 pub record HasSymbols (t : Table) (es : List Entry) (symbols : Symbols) : Type 0 where
-  pub ids : (id : ℕ) → has symbols.ids id ≡ list_any (λ (e : Entry). e.type == id) es
-  pub prototypes : (id : ℕ) → has symbols.prototypes id ≡ list_any
+  pub ids : (id : ℕ) → has_id symbols.ids id ≡ list_any (λ (e : Entry). e.type == id) es
+  pub prototypes : (id : ℕ) → has_id symbols.prototypes id ≡ list_any
       (λ (e : Entry). is_func (kind_at t e.type) && ((record_at t e.type).third == id)) es
 
 -- The entries pass their tests, and the sets have their ids; or a test refuses an entry.
@@ -71,8 +71,8 @@ FindsSymbols t placeholder es (Err refusal) = first_fault (flat_map (ksyms_entry
 
 -- the step is for this table and these ids: it has the target of the symbols and their ids
 pub record IsStep (t : Table) (ids : KsymsIds) (step : Step) : Type 0 where
-  pub target : step.target ≡ target_of t ids.placeholder_id
-  pub symbols : HasSymbols t (symbols t ids) step.symbols
+  pub target : step.target ≡ symbol_target t ids.placeholder_id
+  pub symbols : HasSymbols t (ksyms_entries t ids) step.symbols
   pub datasec : step.datasec_id ≡ ids.datasec_id
 
 -- The tests of the step pass, and this is the step; or a test refuses it.
@@ -81,8 +81,8 @@ StepsWith t ids (Ok step) = (ksyms_fault t ids ≡ None) × IsStep t ids step
 StepsWith t ids (Err refusal) = ksyms_fault t ids ≡ Some refusal
 
 -- what the record of an id becomes in the step
-abbrev pub becomes : Table → KsymsIds → ℕ → Record → Record
-becomes t ids id r = stepped t ids id (kind_of r.info) r
+abbrev pub step_record : Table → KsymsIds → ℕ → Record → Record
+step_record t ids id r = stepped t ids id (kind_of r.info) r
 
 -- the new type has the kind, the length and the fallback of the old type
 pub record IsLike (old new : BtfType) : Type 0 where
@@ -91,17 +91,17 @@ pub record IsLike (old new : BtfType) : Type 0 where
   pub fallback : fallback_of new ≡ fallback_of old
 
 -- what the step does not change in a record: its kind and its length
-abbrev pub shape : Record → Option Kind × ℕ
-shape r = (kind_of r.info, length r.tail)
+abbrev pub kind_and_len : Record → Option Kind × ℕ
+kind_and_len r = (kind_of r.info, length r.tail)
 
 -- With these new types, each id below a count has the record that the step gives it, with an unchanged fallback and
 -- shape.
 pub record AreStepped (t : Table) (ids : KsymsIds) (count : ℕ) (cs : List (ℕ × BtfType)) : Type 0 where
   pub inside : AreInside count cs
-  pub records : put_all (each record_of cs) (take count t.records) ≡ map (λ id. becomes t ids id (record_at t id))
+  pub records : put_all (each record_of cs) (take count t.records) ≡ map (λ id. step_record t ids id (record_at t id))
       (range_with_len 0 count)
   pub fallbacks : put_all (each fallback_of cs) (take count t.fallbacks) ≡ take count t.fallbacks
-  pub shapes : map shape (put_all (each record_of cs) (take count t.records)) ≡ map shape (take count t.records)
+  pub shapes : map kind_and_len (put_all (each record_of cs) (take count t.records)) ≡ map kind_and_len (take count t.records)
 
 -- These are the new types of the whole table. This part never fails.
 abbrev pub StepsAll : Table → KsymsIds → Result (List (ℕ × BtfType)) Refusal → Type 0
@@ -110,5 +110,5 @@ StepsAll t ids (Err refusal) = ⊥
 
 -- The tests of the step pass, and the changes make the table after the step; or a test refuses it.
 abbrev pub MakesKsyms : Table → KsymsIds → Result Changes Refusal → Type 0
-MakesKsyms t ids (Ok changes) = (ksyms_fault t ids ≡ None) × AreOf t changes × (changed t changes ≡ ksyms_table t ids)
+MakesKsyms t ids (Ok changes) = (ksyms_fault t ids ≡ None) × AreChangesOf t changes × (changed t changes ≡ ksyms_table t ids)
 MakesKsyms t ids (Err refusal) = ksyms_fault t ids ≡ Some refusal

@@ -10,23 +10,25 @@ use Rattle.btf_rewrite_model.specs.Checks.{record_len}
 use Rattle.btf_rewrite_model.specs.Pass.{Pass, Layout, asks, asks_below, Asked, texts, added, free_id, offset_at, type_len_at, gets_filler, growth_below, wants_member_type}
 use Rattle.btf_rewrite_model.specs.Rule.{becomes, ruled_below, falls_back}
 use Rattle.btf_rewrite_model.specs.Fault.{fault}
-use Rattle.btf_rewrite_model.specs.Rewritten.{ended, AreRuled, rewritten}
-use Rattle.btf_rewrite_model.specs.Passing.{AreAnswersTo, IsAt, HasMade}
+use Rattle.btf_rewrite_model.specs.Rewritten.{with_zero_byte, AreRuled, rewritten}
+use Rattle.btf_rewrite_model.specs.Passing.{AreAnswersTo, IsPassAt, HasMade}
 use Rattle.btf_rewrite_model.specs.Passing.{MadeBelow}
 use Rattle.btf_plain.specs.Error.{MeetsOrNoMemory}
 use Rattle.btf_plain.specs.declared.error.BtfError.{BtfError}
 use Rattle.btf_records.specs.BtfType.{record_of, fallback_of}
 use Rattle.btf_records.specs.declared.btf_type.BtfType.{BtfType}
 use Rattle.btf_table.specs.Btf.{IsType}
-use Rattle.btf_table.specs.Adding.{strings_end, next_id, HasRoom}
+use Rattle.btf_table.specs.Adding.{next_string_offset, next_id, HasRoom}
 use Rattle.btf_table.specs.InPlace.{denied_type}
-use Rattle.btf_table.specs.Changes.{put_all, each, AreInside, AreOf, changed}
-use Rattle.btf_table.specs.Denied.{AreIds, deny_all, with_denied}
+use Rattle.btf_table.specs.Changes.{put_all, each, AreInside, AreChangesOf, changed}
+use Rattle.btf_table.specs.Layout.{layout_of}
+use Rattle.btf_table.specs.Denied.{AreTypeIds, deny_all, with_denied}
 use Rattle.btf_rewrite_model.specs.declared.feature.FillPolicy.{FillPolicy}
 use Rattle.btf_table.specs.declared.sanitize.made.Made.{Made}
 use Rattle.btf_table.specs.declared.sanitize.outcome.Outcome.{Outcome}
 use Rattle.btf_table.specs.declared.sanitize.outcome.Outcome.TheVariants.{Same, Denied, Other}
 use Rattle.btf_table.specs.declared.sanitize.pass.PassChanges.{PassChanges}
+use Rattle.btf_table.specs.declared.sanitize.request.Request.{Request}
 
 -- the arguments of a pass besides its table
 pub record Given : Type 0 where
@@ -34,17 +36,21 @@ pub record Given : Type 0 where
   pub policy : FillPolicy
 
 -- a layout and a policy
-abbrev pub under : FillPolicy → Layout → Given
-under policy layout = record { layout = layout; policy = policy }
+abbrev pub given_under : FillPolicy → Layout → Given
+given_under policy layout = record { layout = layout; policy = policy }
+
+-- what a request gives a pass
+abbrev pub given_by : {A B G H : Type 0} → Request A B G H → Given
+given_by request = given_under request.policy (layout_of request.sections.now request.symbols.now)
 
 -- the pass over a table, with these answers
 abbrev pub pass_on : Table → Given → List FeatureAnswer → Pass
 pass_on t given answers = record { table = t; layout = given.layout; policy = given.policy; answers = answers }
 
 -- the outcome of a rule that may replace a type by another
-abbrev pub outcome_of : Option BtfType → Outcome
-outcome_of (Some new) = Other new
-outcome_of None = Same
+abbrev pub rule_outcome : Option BtfType → Outcome
+rule_outcome (Some new) = Other new
+rule_outcome None = Same
 
 -- what a type becomes
 abbrev pub made_of : Outcome → BtfType → BtfType
@@ -69,7 +75,7 @@ kept_ids ids id o = ids
 
 -- The state when a pass comes to an id: where its texts and types are appended, and what lower ids have made.
 pub record IsHere (p : Pass) (id : ℕ) (m : Made) : Type 0 where
-  pub offset : offset_at p id ≡ strings_end p.table m.changes
+  pub offset : offset_at p id ≡ next_string_offset p.table m.changes
   pub free : free_id p id ≡ next_id p.table m.changes
   pub type_len : type_len_at p id ≡ m.changes.type_len
   pub names : m.names.items ≡ map (λ (r : Record). r.name) (ruled_below p id)
@@ -92,7 +98,7 @@ growth p id = if gets_filler p id then 12 else 0
 -- The texts and records of an id are appended. Nothing else changes, except for the ids of the member type and the
 -- filler.
 pub record IsGrown (p : Pass) (id : ℕ) (old new : Made) : Type 0 where
-  pub strings : new.changes.new_strings.items ≡ old.changes.new_strings.items ++ flat_map ended (texts p id)
+  pub strings : new.changes.new_strings.items ≡ old.changes.new_strings.items ++ flat_map with_zero_byte (texts p id)
   pub records : map record_of new.changes.new_types.items ≡ map record_of old.changes.new_types.items ++ added p id
   pub fallbacks : map fallback_of new.changes.new_types.items ≡ map fallback_of old.changes.new_types.items
       ++ no_fallbacks (added p id)
@@ -141,6 +147,20 @@ abbrev pub Steps : Pass → ℕ → List FeatureAnswer → BtfType → Made → 
 Steps p id answers old before after result =
     AsksUpTo p id answers [] × Rules (record p { answers = answers }) id old before after result
 
+-- When a pass with these arguments comes to an id of this type, the first features that the id asks for are answered.
+abbrev pub AsksInPass : Table → Given → BtfType → List FeatureAnswer → List FeatureAnswer → Made → Type 0
+AsksInPass t under b first second made =
+    (given : Given) (id : ℕ) → given ≡ under → Comes t given id b first second made
+    → (left : List BtfFeature) × AsksUpTo (pass_on t given first) id second left
+
+-- Then all that the id asks for is answered, and its rule returns this result, or allocation fails. `type_for` gives the
+-- type that the result's value represents.
+abbrev pub StepsInPass : {T : Type 0} → Table → Given → BtfType → List FeatureAnswer → List FeatureAnswer → Made → Made
+    → (T → BtfType) → Result T BtfError → Type 0
+StepsInPass t under b first second before after type_for result =
+    (given : Given) (id : ℕ) → given ≡ under → Comes t given id b first second before
+    → MeetsOrNoMemory type_for result (Steps (pass_on t given first) id second b before after)
+
 -- the records of the ids below this one, after types are replaced and before any is denied
 abbrev pub placed_below : Pass → ℕ → Made → List Record
 placed_below p id m = put_all (each record_of m.changes.types.items) (take id p.table.records)
@@ -154,7 +174,7 @@ pub record IsMade (p : Pass) (id : ℕ) (m : Made) (ids : List ℕ) : Type 0 whe
   pub new_fallbacks : map fallback_of m.changes.new_types.items ≡ no_fallbacks (map record_of m.changes.new_types.items)
   pub names : m.names.items ≡ map (λ (r : Record). r.name) (ruled_below p id)
   pub inside : AreInside id m.changes.types.items
-  pub denied : AreIds id ids
+  pub denied : AreTypeIds id ids
   pub kinds : (j : ℕ) (r : Record) → slice_get (placed_below p id m) j ≡ Some r → (k : Kind) × (kind_of r.info ≡ Some k)
   pub len : sum_by record_len (placed_below p id m) ≡ sum_by record_len (take id p.table.records) + growth_below p id
   pub member_type : MadeBelow (wants_member_type p) (free_id p) id m.member_type
@@ -165,7 +185,7 @@ pub record IsMade (p : Pass) (id : ℕ) (m : Made) (ids : List ℕ) : Type 0 whe
 -- Or the pass is refused at an id, and all that this id and lower ids ask for is answered.
 abbrev pub Passes : Pass → Result PassChanges Refusal → Type 0
 Passes p (Ok c) =
-    IsAt p (length p.table.records) × AreOf p.table c.changes × AreIds (length p.table.records) c.denied.items
+    IsPassAt p (length p.table.records) × AreChangesOf p.table c.changes × AreTypeIds (length p.table.records) c.denied.items
     × (with_denied c.denied.items (changed p.table c.changes) ≡ rewritten p)
 Passes p (Err refusal) =
     (id : ℕ) × (id < length p.table.records) × AreRuled p id × (fault p id ≡ Some refusal)

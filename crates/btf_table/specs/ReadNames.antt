@@ -4,7 +4,7 @@ use Rattle.std.specs.BTreeMap.{BTreeMap, get}
 use Rattle.std.specs.Ordering.{nat_cmp}
 use Rattle.btf_model.specs.Text.{text_at}
 use Rattle.btf_rewrite_model.specs.Checks.{in_a_word}
-use Rattle.btf_rewrite_model.specs.Pass.{Layout, replaced, slash, dot, underscore}
+use Rattle.btf_rewrite_model.specs.Pass.{Layout, replaced, slash, dot, underscore_byte}
 use Rattle.btf_table.specs.Readable.{IsReadableEnd}
 use Rattle.btf_table.specs.declared.sanitize.read_names.ReadNames.{ReadNames}
 
@@ -19,7 +19,7 @@ abbrev pub AreUnchanged : List ℕ → BTreeMap ℕ Bool → Type 0
 AreUnchanged strings kept =
     (offset : ℕ) (granted : Bool) → get nat_cmp kept offset ≡ Some granted
     → (name : List ℕ) × (text_at strings offset ≡ Ok name)
-    × ((if granted then replaced slash dot name else replaced dot underscore name) ≡ name)
+    × ((if granted then replaced slash dot name else replaced dot underscore_byte name) ≡ name)
 
 -- All cached entries are correct for these strings and this layout.
 pub record AreRead (strings : List ℕ) (layout : Layout) (names : ReadNames) : Type 0 where

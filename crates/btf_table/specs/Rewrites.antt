@@ -1,5 +1,6 @@
 -- What a rewrite returns.
-use Rattle.std.specs.Prelude.{◌≡◌, ◌≢◌, ◌≤◌, ◌+◌, ◌⊎◌, ℕ, suc, List, [], length, map, slice_get, Option, Some, None, Result, Ok, Err}
+use Rattle.std.specs.Prelude.{◌≡◌, ◌≢◌, ◌≤◌, ◌+◌, ◌⊎◌, ℕ, suc, List, [], length, map, slice_get, Option, Some, None, Result, Ok, Err, String}
+use Rattle.std.specs.HashMap.{HashMap}
 use Rattle.btf_model.specs.Record as kinds
 use Rattle.btf_model.specs.Record.{Record}
 use Rattle.btf_model.specs.Refusal.{Refusal, MaximumTypeDepthReached}
@@ -17,39 +18,54 @@ use Rattle.btf_rewrite_model.specs.declared.feature.FillPolicy.{FillPolicy}
 use Rattle.btf_rewrite_model.specs.Pass.{Pass, Layout, asks_below, each_once, Asked}
 use Rattle.btf_rewrite_model.specs.Rewritten.{begun, pass_of, step_fault, FaultsAt, Rewritten, rewritten, AreRuled, old_count}
 use Rattle.btf_rewrite_model.specs.declared.ksyms_ids.KsymsIds.{KsymsIds}
+use Rattle.btf_plain.specs.declared.section_index.SectionIndex.{SectionIndex}
+use Rattle.btf_table.specs.Layout.{layout_of}
 use Rattle.btf_table.specs.PassStep.{BeginsAsked}
 
 -- the features that were asked for
 abbrev pub features_asked : List FeatureAnswer → List BtfFeature
 features_asked answers = map (λ (answer : FeatureAnswer). answer.feature) answers
 
+-- what a caller asks of a rewrite: the policy for DATASECs, the `.ksyms` of its program, and the program's layout
+pub record Rewrite : Type 0 where
+  pub policy : FillPolicy
+  pub ksyms : Option KsymsIds
+  pub layout : Layout
+
+-- the rewrite that the arguments of a call ask for
+abbrev pub rewrite_of : {Y S Z T : Type 0} → FillPolicy → Option KsymsIds → HashMap (String Y) (SectionIndex × ℕ) S
+    → HashMap (String Z) ℕ T → Rewrite
+rewrite_of policy ksyms sections symbols = record { policy = policy; ksyms = ksyms; layout = layout_of sections symbols }
+
+-- its pass over a table, with these answers
+abbrev pub pass_for : Rewrite → Table → List FeatureAnswer → Pass
+pass_for w old answers = pass_of w.policy old w.ksyms w.layout answers
+
 -- A rewrite is refused in the step of `.ksyms`, before it asks for anything; or at the least id that has a fault, after
 -- it has asked for the features of this id and of all lower ids.
-abbrev pub Refuses : FillPolicy → Table → Option KsymsIds → Layout → List FeatureAnswer → Refusal → Type 0
-Refuses policy old ids layout answers refusal =
-    ((step_fault old ids ≡ Some refusal) × (answers ≡ []))
-    ⊎ ((step_fault old ids ≡ None) × ((id : ℕ) × FaultsAt (pass_of policy old ids layout answers) id refusal
-    × (features_asked answers ≡ each_once (asks_below (pass_of policy old ids layout answers) (suc id)))))
+abbrev pub Refuses : Rewrite → Table → List FeatureAnswer → Refusal → Type 0
+Refuses w old answers refusal =
+    ((step_fault old w.ksyms ≡ Some refusal) × (answers ≡ []))
+    ⊎ ((step_fault old w.ksyms ≡ None) × ((id : ℕ) × FaultsAt (pass_for w old answers) id refusal
+    × (features_asked answers ≡ each_once (asks_below (pass_for w old answers) (suc id)))))
 
 -- The table is rewritten, and the answers are to what the rewrite asks for; or the rewrite is refused.
-abbrev pub Rewrites : {X : Type 0} → FillPolicy → Table → Option KsymsIds → Layout → List FeatureAnswer → Table
-    → Result X Refusal → Type 0
-Rewrites policy old ids layout answers new (Ok x) =
-    Rewritten policy old ids layout answers new
-    × (features_asked answers ≡ Asked (pass_of policy old ids layout answers))
-Rewrites policy old ids layout answers new (Err refusal) = Refuses policy old ids layout answers refusal
+abbrev pub Rewrites : {X : Type 0} → Rewrite → Table → List FeatureAnswer → Table → Result X Refusal → Type 0
+Rewrites w old answers new (Ok x) =
+    Rewritten w.policy old w.ksyms w.layout answers new × (features_asked answers ≡ Asked (pass_for w old answers))
+Rewrites w old answers new (Err refusal) = Refuses w old answers refusal
 
 -- If the bytes represent a table, it is rewritten and the result has the bytes of the new table, or its rewrite is
 -- refused. If the bytes represent no table, they are refused, and the rewrite asks for nothing.
-abbrev pub RewritesBytes : FillPolicy → Endianness → List ℕ → Option KsymsIds → Layout → List FeatureAnswer
+abbrev pub RewritesBytes : Rewrite → Endianness → List ℕ → List FeatureAnswer
     → Result (List ℕ × List FeatureAnswer) Refusal → Type 0
-RewritesBytes policy order bytes ids layout answers (Ok (written, listed)) =
-    (old : Table) × (new : Table) × IsTable order bytes old × Rewritten policy old ids layout answers new
-    × (features_asked answers ≡ Asked (pass_of policy old ids layout answers)) × (written ≡ canon new)
+RewritesBytes w order bytes answers (Ok (written, listed)) =
+    (old : Table) × (new : Table) × IsTable order bytes old × Rewritten w.policy old w.ksyms w.layout answers new
+    × (features_asked answers ≡ Asked (pass_for w old answers)) × (written ≡ canon new)
     × IsTable order written (strip new)
-RewritesBytes policy order bytes ids layout answers (Err refusal) =
+RewritesBytes w order bytes answers (Err refusal) =
     (IsRefusal order bytes refusal × (answers ≡ []))
-    ⊎ ((old : Table) × IsTable order bytes old × Refuses policy old ids layout answers refusal)
+    ⊎ ((old : Table) × IsTable order bytes old × Refuses w old answers refusal)
 
 -- A pass without the step of `.ksyms`: the rewritten table, or why the pass is refused.
 abbrev pub Sanitizes : {X : Type 0} → Pass → Table → Result X Refusal → Type 0
@@ -102,9 +118,9 @@ pub record KeepsMeaning (old new : Table) : Type 0 where
 
 -- There are no answers; or the bytes represent a table, and the answers are to the first features that its rewrite asks
 -- for.
-abbrev pub BeginsAskedOf : FillPolicy → Endianness → List ℕ → Option KsymsIds → Layout → List FeatureAnswer → Type 0
-BeginsAskedOf policy order bytes ids layout answers =
-    (answers ≡ []) ⊎ ((old : Table) × IsTable order bytes old × BeginsAsked (pass_of policy old ids layout answers))
+abbrev pub BeginsAskedOf : Rewrite → Endianness → List ℕ → List FeatureAnswer → Type 0
+BeginsAskedOf w order bytes answers =
+    (answers ≡ []) ⊎ ((old : Table) × IsTable order bytes old × BeginsAsked (pass_for w old answers))
 
 -- P holds for the table that the bytes represent and the table that the written bytes represent.
 abbrev pub OfTables : Endianness → List ℕ → List ℕ → (Table → Table → Type 0) → Type 0

@@ -2,7 +2,7 @@
 use Rattle.std.specs.Prelude.{◌≡◌, ℕ, [], ◌∷◌, ◌==◌, ◌*◌, length, ◌&&◌, ◌||◌, not, Bool, if◌then◌else◌, Option, Some, None, max}
 use Rattle.btf_model.specs.Record as kinds
 use Rattle.btf_model.specs.Record.{Record, kind_of, vlen}
-use Rattle.btf_rewrite_model.specs.Made.{data_sec}
+use Rattle.btf_rewrite_model.specs.Made.{made_data_sec}
 use Rattle.btf_rewrite_model.specs.Checks.{first_fault}
 use Rattle.btf_rewrite_model.specs.Pass.{Pass, name_of, renaming, section_size, name_checks}
 use Rattle.btf_rewrite_model.specs.Rule.{new_name}
@@ -28,8 +28,8 @@ pub record HasNewName (p : Pass) (id : ℕ) (r : Record) (name : ℕ) (before no
   pub filler : now.filler ≡ before.filler
 
 -- a DATASEC of this name whose only entry is the filler with this id
-abbrev pub filled : ℕ → ℕ → ℕ → Record
-filled name size id = data_sec name (max size 1) 1 (record { type = id; offset = 0; size = max size 1 } ∷ [])
+abbrev pub filler_section : ℕ → ℕ → ℕ → Record
+filler_section name size id = made_data_sec name (max size 1) 1 (record { type = id; offset = 0; size = max size 1 } ∷ [])
 
 -- the final size of a DATASEC, if it is known: its own size, or the size of its section if its own is 0
 abbrev pub final_size : Pass → ℕ → Record → Option ℕ

@@ -18,14 +18,12 @@ ghost use Rattle.std.specs.Prelude.{◌≡◌, [], Option, Some, OnOk, OnErr, If
 ghost use Rattle.btf_rewrite_model.specs.declared.feature.BtfFeature.{BtfFeature};
 ghost use Rattle.btf_rewrite_model.specs.declared.feature.FillPolicy.TheVariants.{KeepSized};
 ghost use Rattle.btf_rewrite_model.specs.Ksyms.{ksyms_fault, ksyms_table};
-ghost use Rattle.btf_rewrite_model.specs.Rewritten.{pass_of};
 ghost use Rattle.btf_plain.specs.Error.{MeetsOrNoMemory, IsOrNoMemory};
 ghost use Rattle.btf_table.specs.Checked.{checked};
 ghost use Rattle.btf_table.specs.Features.{Called};
 ghost use Rattle.btf_table.specs.KsymsStep.{ksyms_ids};
-ghost use Rattle.btf_table.specs.Layout.{layout_of};
-ghost use Rattle.btf_table.specs.PassStep.{pass_on, under, BeginsAsked};
-ghost use Rattle.btf_table.specs.Rewrites.{Rewrites, RewritesBytes, Sanitizes, NeedsAreGranted, KeepsTypes, KeepsMeaning, AppendsAtMost, BeginsAskedOf, OfTables};
+ghost use Rattle.btf_table.specs.PassStep.{pass_on, given_by, BeginsAsked};
+ghost use Rattle.btf_table.specs.Rewrites.{rewrite_of, pass_for, Rewrites, RewritesBytes, Sanitizes, NeedsAreGranted, KeepsTypes, KeepsMeaning, AppendsAtMost, BeginsAskedOf, OfTables};
 
 pub use crate::sanitize::data_sec::known_offset;
 pub use crate::sanitize::features::BtfFeatureResolver;
@@ -88,12 +86,9 @@ impl Btf {
         ensures callable { F.IsAlwaysCallable resolver.new.predicate }
         ensures called { Called F.step resolver.old.predicate resolver.new.answers
             resolver.new.predicate }
-        ensures asked { BeginsAsked (pass_on self.old
-            (under request.now.policy
-            (layout_of request.now.sections.now request.now.symbols.now)) resolver.new.answers) }
+        ensures asked { BeginsAsked (pass_on self.old (given_by request.now) resolver.new.answers) }
         ensures sanitizes { MeetsOrNoMemory (λ a. a.items) result
-            (Sanitizes (pass_on self.old (under request.now.policy
-            (layout_of request.now.sections.now request.now.symbols.now))
+            (Sanitizes (pass_on self.old (given_by request.now)
             resolver.new.answers) self.new) }
         ensures answers { IfOk result (λ a. a.items ≡ resolver.new.answers) }
         ensures err { OnErr result (self.new ≡ self.old) }
@@ -133,12 +128,12 @@ impl Btf {
         ensures called { Called F.step resolver.old.predicate resolver.new.answers
             resolver.new.predicate }
         // Whether the rewrite succeeds or fails, the answers are to the first features that it asks for.
-        ensures asked { BeginsAsked (pass_of KeepSized self.old ksyms
-            (layout_of sections.now symbols.now) resolver.new.answers) }
+        ensures asked { BeginsAsked (pass_for
+            (rewrite_of KeepSized ksyms sections.now symbols.now) self.old resolver.new.answers) }
         // On success the table is the rewritten one, and all features were asked for; otherwise the first error is
         // returned.
         ensures rewrites { MeetsOrNoMemory (λ a. a.items) result
-            (Rewrites KeepSized self.old ksyms (layout_of sections.now symbols.now)
+            (Rewrites (rewrite_of KeepSized ksyms sections.now symbols.now) self.old
             resolver.new.answers self.new) }
         ensures answers { IfOk result (λ a. a.items ≡ resolver.new.answers) }
         ensures err { OnErr result (self.new ≡ self.old) }
@@ -175,13 +170,13 @@ impl Btf {
         ensures called { Called F.step resolver.old.predicate resolver.new.answers
             resolver.new.predicate }
         // Whether the rewrite succeeds or fails, the answers are to the first features that it asks for.
-        ensures asked { BeginsAsked (pass_of policy self.old ksyms
-            (layout_of sections.now symbols.now) resolver.new.answers) }
+        ensures asked { BeginsAsked (pass_for
+            (rewrite_of policy ksyms sections.now symbols.now) self.old resolver.new.answers) }
         // On success the table is the rewritten one, and all features were asked for; otherwise the first error is
         // returned.
         ensures rewrites { MeetsOrNoMemory (λ a. a.items) result
-            (Rewrites policy self.old ksyms
-            (layout_of sections.now symbols.now) resolver.new.answers self.new) }
+            (Rewrites (rewrite_of policy ksyms sections.now symbols.now) self.old
+            resolver.new.answers self.new) }
         ensures answers { IfOk result (λ a. a.items ≡ resolver.new.answers) }
         ensures err { OnErr result (self.new ≡ self.old) }
         // Each feature that the kernel needs for the new table was asked for once and granted.
@@ -228,13 +223,13 @@ pub fn rewrite_bytes<F: FnMut(BtfFeature) -> bool>(
     ensures called { Called F.step resolver.old.predicate resolver.new.answers
         resolver.new.predicate }
     ensures rewrites { MeetsOrNoMemory (λ r. (r.0.items, r.1.items)) result
-        (RewritesBytes KeepSized endianness «data».now ksyms
-        (layout_of sections.now symbols.now) resolver.new.answers) }
+        (RewritesBytes (rewrite_of KeepSized ksyms sections.now symbols.now)
+        endianness «data».now resolver.new.answers) }
     ensures answers { IfOk result (λ r. r.1.items ≡ resolver.new.answers) }
     // In every outcome there are no answers, or the bytes represent a table and the answers are to the first features
     // that its rewrite asks for.
-    ensures asked { BeginsAskedOf KeepSized endianness «data».now ksyms
-        (layout_of sections.now symbols.now) resolver.new.answers }
+    ensures asked { BeginsAskedOf (rewrite_of KeepSized ksyms sections.now symbols.now) endianness
+        «data».now resolver.new.answers }
     // For the table that the bytes represent and the table that the written bytes represent: each feature that the
     // kernel needs for the new table was asked for once and granted;
     ensures granted { IfOk result (λ r. OfTables endianness «data».now r.0.items
@@ -267,14 +262,13 @@ pub fn rewrite_bytes_with<F: FnMut(BtfFeature) -> bool, G: BuildHasher, H: Build
     ensures called { Called F.step resolver.old.predicate resolver.new.answers
         resolver.new.predicate }
     ensures rewrites { MeetsOrNoMemory (λ r. (r.0.items, r.1.items)) result
-        (RewritesBytes policy endianness «data».now ksyms
-        (layout_of sections.now symbols.now) resolver.new.answers) }
+        (RewritesBytes (rewrite_of policy ksyms sections.now symbols.now)
+        endianness «data».now resolver.new.answers) }
     ensures answers { IfOk result (λ r. r.1.items ≡ resolver.new.answers) }
     // In every outcome there are no answers, or the bytes represent a table and the answers are to the first features
     // that its rewrite asks for.
-    ensures asked { BeginsAskedOf policy endianness «data».now
-        ksyms
-        (layout_of sections.now symbols.now) resolver.new.answers }
+    ensures asked { BeginsAskedOf (rewrite_of policy ksyms sections.now symbols.now) endianness
+        «data».now resolver.new.answers }
     // For the table that the bytes represent and the table that the written bytes represent: each feature that the
     // kernel needs for the new table was asked for once and granted;
     ensures granted { IfOk result (λ r. OfTables endianness «data».now r.0.items

@@ -25,7 +25,7 @@ ghost use Rattle.btf_records.specs.BtfType.{record_of, fallback_of, type_kind};
 ghost use Rattle.btf_table.specs.Btf.{IsType, HasShapeOf};
 ghost use Rattle.btf_table.specs.BtfStr.{text_bytes, HasName};
 ghost use Rattle.btf_model.specs.Text.{text_at};
-ghost use Rattle.btf_rewrite_model.specs.Checks.{is_read};
+ghost use Rattle.btf_rewrite_model.specs.Checks.{name_is_read};
 ghost use Rattle.btf_table.specs.Checked.{checked};
 ghost use Rattle.btf_table.specs.Readable.{IsReadableEnd, IsComparable};
 ghost use Rattle.std.specs.Prelude.{IfSome, string_bytes};
@@ -345,7 +345,7 @@ impl Btf {
     pub(crate) fn check_name(&self, offset: u32, readable_end: usize) -> Result<(), BtfError>
         requires { IsReadableEnd self.now.strings readable_end }
         ensures { IsOrNoMemory (λ u. u) result
-            (checked (is_read (text_at self.now.strings offset)) tt) }
+            (checked (name_is_read (text_at self.now.strings offset)) tt) }
     {
         let offset = offset as usize;
         if offset < readable_end {

@@ -8,13 +8,13 @@ use Rattle.btf_model.specs.Text.{FindsName}
 use Rattle.btf_model.specs.Walk.{Resolves}
 
 -- whether there is a kind, and it is STRUCT or UNION
-abbrev pub is_composite_kind : Option Kind → Bool
-is_composite_kind (Some k) = is_composite k
-is_composite_kind None = false
+abbrev pub is_struct_or_union : Option Kind → Bool
+is_struct_or_union (Some k) = is_composite k
+is_struct_or_union None = false
 
 -- whether there is a record, and it is a STRUCT or a UNION
 abbrev pub is_composite_record : Option Record → Bool
-is_composite_record (Some r) = is_composite_kind (kind_of r.info)
+is_composite_record (Some r) = is_struct_or_union (kind_of r.info)
 is_composite_record None = false
 
 -- whether the type of an id is a STRUCT or a UNION (the kernel's documentation, "BTF_KIND_STRUCT")
@@ -33,23 +33,23 @@ OrElse First Second answer =
     ⊎ ((unknown : Result ℕ Refusal) × First unknown × (is_unknown_name unknown ≡ true) × Second answer)
 
 -- the search for the first type of a kind and a name
-abbrev pub Finds : Table → List ℕ → Kind → Result ℕ Refusal → Type 0
-Finds t name k = FindsName t.strings t.records k name
+abbrev pub FindsFirstOf : Table → List ℕ → Kind → Result ℕ Refusal → Type 0
+FindsFirstOf t name k = FindsName t.strings t.records k name
 
 -- the type that the first TYPEDEF of a name resolves to
 abbrev pub MeansTypedef : Table → List ℕ → Result ℕ Refusal → Type 0
-MeansTypedef t name = Then (Finds t name Typedef) (Resolves t.records)
+MeansTypedef t name = Then (FindsFirstOf t name Typedef) (Resolves t.records)
 
 -- The type that a name means: the first STRUCT of the name; if there is none, the first UNION; if there is neither,
 -- what the first TYPEDEF of the name resolves to. Source: a choice of this program; C has tags and typedef names in
 -- different name spaces (C11, 6.2.3).
 abbrev pub Means : Table → List ℕ → Result ℕ Refusal → Type 0
 Means t name =
-    OrElse (Finds t name Struct) (OrElse (Finds t name Union) (MeansTypedef t name))
+    OrElse (FindsFirstOf t name Struct) (OrElse (FindsFirstOf t name Union) (MeansTypedef t name))
 
 -- the id of a type, if it is a STRUCT or a UNION by its record, if there is one
 abbrev pub composite : ℕ → Option Record → Result ℕ Refusal
-composite id (Some r) = if is_composite_kind (kind_of r.info) then Ok id else Err (UnexpectedBtfType id)
+composite id (Some r) = if is_struct_or_union (kind_of r.info) then Ok id else Err (UnexpectedBtfType id)
 composite id None = Err (UnknownBtfType id)
 
 -- The STRUCT or UNION that a name means, or why there is none.

@@ -3,7 +3,7 @@
 ghost use Rattle.std.specs.Prelude.{◌≡◌, true, IfOk};
 ghost use Rattle.btf_plain.specs.Error.{MeetsOrNoMemory};
 ghost use Rattle.btf_model.specs.Record.{Union};
-ghost use Rattle.btf_text.specs.Layout.{is_composite_at, OrElse, Finds, MeansTypedef, Means, FindsLayout};
+ghost use Rattle.btf_text.specs.Layout.{is_composite_at, OrElse, FindsFirstOf, MeansTypedef, Means, FindsLayout};
 
 mod column;
 mod declarator;
@@ -59,7 +59,7 @@ fn find_named(table: &Btf, name: &str) -> Result<u32, BtfError>
 /// The id of the first UNION of a name; otherwise as `find_typedef`.
 fn find_union(table: &Btf, name: &str) -> Result<u32, BtfError>
     ensures { MeetsOrNoMemory (λ id. id) result
-        (OrElse (Finds table.now name.now Union) (MeansTypedef table.now name.now)) }
+        (OrElse (FindsFirstOf table.now name.now Union) (MeansTypedef table.now name.now)) }
 {
     match table.id_by_type_name_kind(name, BtfKind::Union) {
         Err(BtfError::UnknownBtfTypeName { type_name: _text }) => find_typedef(table, name),

@@ -7,7 +7,7 @@ use Rattle.std.proofs.lemmas.List.{map-append}
 use Rattle.btf_model.specs.Table.{Table}
 use Rattle.btf_plain.specs.declared.kind.BtfKind.{BtfKind}
 use Rattle.btf_plain.specs.declared.kind.BtfKind.TheVariants.{Unknown}
-use Rattle.btfobj_cli.specs.Compat.{FindsOrNone, FindsFirst, Finds, AreFindings, is_compatible, are_compatible}
+use Rattle.btfobj_cli.specs.Compat.{FindsOrNone, FindsFirst, FindsByName, AreFindings, is_compatible, are_compatible}
 use Rattle.btfobj_cli.specs.declared.compatibility.Finding.{Finding}
 
 -- the kinds from an index on
@@ -30,12 +30,12 @@ no_kind t name ks i none = subst (λ (xs : List BtfKind). FindsFirst t name xs N
 
 -- ---- the findings for names
 
-each_push : (local other : Table) (found : List (List ℕ × Finding)) (name : List ℕ) (finding : Finding) → AllByRecursion (λ (f : List ℕ × Finding). Finds local other f.0 f.1) found → Finds local other name finding
-    → AllByRecursion (λ (f : List ℕ × Finding). Finds local other f.0 f.1) (found ++ (name, finding) ∷ [])
+each_push : (local other : Table) (found : List (List ℕ × Finding)) (name : List ℕ) (finding : Finding) → AllByRecursion (λ (f : List ℕ × Finding). FindsByName local other f.0 f.1) found → FindsByName local other name finding
+    → AllByRecursion (λ (f : List ℕ × Finding). FindsByName local other f.0 f.1) (found ++ (name, finding) ∷ [])
 each_push local other [] name finding each finds = (finds, tt)
 each_push local other (f ∷ found) name finding each finds = (each.0, each_push local other found name finding each.1 finds)
 
-pub findings_push : (local other : Table) (names : List (List ℕ)) (found : List (List ℕ × Finding)) (name : List ℕ) (finding : Finding) → AreFindings local other names found → Finds local other name finding
+pub findings_push : (local other : Table) (names : List (List ℕ)) (found : List (List ℕ × Finding)) (name : List ℕ) (finding : Finding) → AreFindings local other names found → FindsByName local other name finding
     → AreFindings local other (names ++ name ∷ []) (found ++ (name, finding) ∷ [])
 findings_push local other names found name finding are finds = record {
   named = map-append (λ (f : List ℕ × Finding). f.0) found ((name, finding) ∷ []) ∙ ap (λ (ns : List (List ℕ)). ns ++ name ∷ []) are.named;
@@ -62,7 +62,7 @@ abbrev pub Found : Table → Table → List (Bor (List ℕ)) → ℕ → Bool �
 Found local other names i all =
     (found : List (List ℕ × Finding)) × AreFindings local other (take i (map (λ (name : Bor (List ℕ)). name.now) names)) found × (all ≡ are_compatible found)
 
-pub one_more : (local other : Table) (names : List (Bor (List ℕ))) (i : ℕ) (d : Bor (List ℕ)) (finding : Finding) (all next : Bool) → i < length names → Finds local other (get_or names i d).now finding
+pub one_more : (local other : Table) (names : List (Bor (List ℕ))) (i : ℕ) (d : Bor (List ℕ)) (finding : Finding) (all next : Bool) → i < length names → FindsByName local other (get_or names i d).now finding
     → next ≡ (all && is_compatible finding) → Found local other names i all → Found local other names (i + 1) next
 one_more local other names i d finding all next lt finds is before =
     let name : List ℕ = (get_or names i d).now in

@@ -7,7 +7,7 @@ use Rattle.btf_model.specs.Spelling.{spell}
 use Rattle.btf_model.specs.Table as tables
 use Rattle.btf_model.specs.declared.endianness.Endianness.TheVariants.{Little}
 use Rattle.btf_rewrite_model.specs.declared.feature.FeatureAnswer.{FeatureAnswer}
-use Rattle.btfobj_cli.specs.InputFile.{IsFile, HasTable}
+use Rattle.btfobj_cli.specs.InputFile.{IsFile, HasFileTable}
 use Rattle.btfobj_cli.specs.Rewrite.{IsRewritten}
 use Rattle.btfobj_cli.specs.declared.input_file.InputFile.{InputFile}
 use Rattle.btfobj_cli.specs.declared.changes.Checked.{Checked}
@@ -25,7 +25,7 @@ has_changed old new =
 
 -- The file of these bytes has this table.
 abbrev pub FileHasTable : List ℕ → tables.Table → Type 0
-FileHasTable bytes t = (input : InputFile) × IsFile bytes input × HasTable input t
+FileHasTable bytes t = (input : InputFile) × IsFile bytes input × HasFileTable input t
 
 -- whether one of these answers is that the kernel lacks the feature
 abbrev pub lacks_any : List FeatureAnswer → Bool

@@ -7,7 +7,7 @@ use Rattle.btf_model.specs.Fields.{Pair}
 use Rattle.btf_model.specs.Refusal.{UnknownBtfTypeName}
 use Rattle.btf_model.specs.Table.{Table}
 use Rattle.btf_model.specs.Text.{FindsName}
-use Rattle.btf_compare.specs.Pairs.{pair}
+use Rattle.btf_compare.specs.Pairs.{id_pair}
 use Rattle.btf_plain.specs.Kind.{kind}
 use Rattle.btf_plain.specs.declared.kind.BtfKind.{BtfKind}
 use Rattle.btf_plain.specs.declared.kind.BtfKind.TheVariants.{Struct, Union, Enum, Enum64, Typedef, Int, Float, Fwd, Func}
@@ -40,9 +40,9 @@ like_kinds k = k ∷ []
 abbrev pub FindsWith : Table → Table → ℕ → Option (BtfKind × ℕ) → Finding → Type 0
 FindsWith local other id None finding = finding ≡ NoTarget
 FindsWith local other id (Some found) Compatible =
-    (listed : List Pair) × Plain local other [] (pair id found.1) (Ok true) listed
+    (listed : List Pair) × Plain local other [] (id_pair id found.1) (Ok true) listed
 FindsWith local other id (Some found) Incompatible =
-    (listed : List Pair) × Plain local other [] (pair id found.1) (Ok false) listed
+    (listed : List Pair) × Plain local other [] (id_pair id found.1) (Ok false) listed
 FindsWith local other id (Some found) finding = ⊥
 
 -- The finding for the type of the first table, if there is one.
@@ -53,8 +53,8 @@ FindsFor local other name (Some found) finding =
     × FindsWith local other found.1 like finding
 
 -- The finding for a name.
-abbrev pub Finds : Table → Table → List ℕ → Finding → Type 0
-Finds local other name finding =
+abbrev pub FindsByName : Table → Table → List ℕ → Finding → Type 0
+FindsByName local other name finding =
     (found : Option (BtfKind × ℕ)) × FindsFirst local name compared_kinds found
     × FindsFor local other name found finding
 
@@ -73,7 +73,7 @@ is_compatible finding = false
 -- These are the findings for names, in order, each with its name.
 pub record AreFindings (local other : Table) (names : List (List ℕ)) (found : List (List ℕ × Finding)) : Type 0 where
   pub named : map (λ (f : List ℕ × Finding). f.0) found ≡ names
-  pub each : AllByRecursion (λ (f : List ℕ × Finding). Finds local other f.0 f.1) found
+  pub each : AllByRecursion (λ (f : List ℕ × Finding). FindsByName local other f.0 f.1) found
 
 -- whether the types of all names are compatible
 abbrev pub are_compatible : List (List ℕ × Finding) → Bool

@@ -6,10 +6,10 @@ use Rattle.btf_plain.specs.Error.{refusal_of}
 use Rattle.btf_plain.specs.declared.error.BtfError.{BtfError}
 use Rattle.btf_elf.specs.declared.error.ObjectError.{ObjectError}
 use Rattle.btf_elf.specs.declared.error.ObjectError.TheVariants as errors
-use Rattle.btf_elf.specs.Results.{IsReason}
+use Rattle.btf_elf.specs.Results.{IsElfError}
 use Rattle.btf_elf_model.specs.Object.{Object}
-use Rattle.btf_object_model.specs.Sanitized.{index_of, table_name, ext_name}
-use Rattle.btfobj_cli.specs.InputFile.{HasTableBytes, order_of}
+use Rattle.btf_object_model.specs.Sanitized.{first_section_index, table_name, ext_name}
+use Rattle.btfobj_cli.specs.InputFile.{HasTableBytes, file_order}
 use Rattle.btfobj_cli.specs.declared.input_file.InputFile.{InputFile}
 use Rattle.btfobj_cli.specs.declared.input_file.InputFile.TheVariants as inputs
 use Rattle.btfobj_cli.specs.declared.fault.Fault.{Fault}
@@ -31,18 +31,18 @@ table_fault e = fault_by e (refusal_of e)
 
 -- The fault reports why the bytes are no object, or that an allocation failed.
 abbrev pub ReportsObject : List ℕ → Fault → Type 0
-ReportsObject bytes (faults.Object e) = IsReason bytes e
+ReportsObject bytes (faults.Object e) = IsElfError bytes e
 ReportsObject bytes faults.OutOfMemory = Unit {0}
 ReportsObject bytes fault = ⊥
 
 -- The object has no section of this name, and the fault names it.
 abbrev pub LacksSection : Object → List ℕ → Fault → Type 0
-LacksSection o name (faults.NoSection named) = (index_of o name ≡ None) × (named.now ≡ name)
+LacksSection o name (faults.NoSection named) = (first_section_index o name ≡ None) × (named.now ≡ name)
 LacksSection o name fault = ⊥
 
 -- The file is an object without a section `.BTF`, which has this name.
 abbrev pub LacksTable : InputFile → List ℕ → Type 0
-LacksTable (inputs.Object object) name = (index_of object table_name ≡ None) × (name ≡ table_name)
+LacksTable (inputs.Object object) name = (first_section_index object table_name ≡ None) × (name ≡ table_name)
 LacksTable (inputs.Table own order) name = ⊥
 
 -- The fault reports why the file has no table: its object has no section `.BTF`, the bytes represent no table, or an
@@ -51,7 +51,7 @@ abbrev pub ReportsTable : InputFile → Fault → Type 0
 ReportsTable input (faults.NoSection name) = LacksTable input name.now
 ReportsTable input (faults.Table e) =
     (bytes : List ℕ) × (refusal : Refusal) × HasTableBytes input bytes × (refusal_of e ≡ Some refusal)
-    × IsRefusal (order_of input) bytes refusal
+    × IsRefusal (file_order input) bytes refusal
 ReportsTable input faults.OutOfMemory = Unit {0}
 ReportsTable input fault = ⊥
 

@@ -7,7 +7,7 @@ use Rattle.btf_model.specs.declared.endianness.Endianness.TheVariants.{Little, B
 use Rattle.btf_split_model.specs.Split.{IsJoined}
 use Rattle.btf_elf_model.specs.Object as elf
 use Rattle.btf_elf_model.specs.declared.section_header.SectionHeader.{SectionHeader}
-use Rattle.btf_object_model.specs.Sanitized.{index_of, table_name, ext_name}
+use Rattle.btf_object_model.specs.Sanitized.{first_section_index, table_name, ext_name}
 use Rattle.btfobj_cli.specs.declared.input_file.InputFile.{InputFile}
 use Rattle.btfobj_cli.specs.declared.input_file.InputFile.TheVariants.{Object, Table}
 
@@ -41,19 +41,19 @@ IsFile bytes (Object object) = elf.IsObject bytes object
 IsFile bytes (Table own order) = (own.now ≡ bytes) × BeginsTable order bytes
 
 -- the byte order of the words: of an object, the order in its header
-abbrev pub order_of : InputFile → Endianness
-order_of (Object object) = object.header.order
-order_of (Table bytes order) = order
+abbrev pub file_order : InputFile → Endianness
+file_order (Object object) = object.header.order
+file_order (Table bytes order) = order
 
 -- The first section of a name has these bytes.
-abbrev pub IsSection : elf.Object → List ℕ → List ℕ → Type 0
-IsSection o name bytes =
-    (index : ℕ) × (s : SectionHeader) × (index_of o name ≡ Some index) × (slice_get o.sections index ≡ Some s)
+abbrev pub IsFirstSection : elf.Object → List ℕ → List ℕ → Type 0
+IsFirstSection o name bytes =
+    (index : ℕ) × (s : SectionHeader) × (first_section_index o name ≡ Some index) × (slice_get o.sections index ≡ Some s)
     × (bytes ≡ elf.section_bytes o s)
 
 -- The bytes of the table: of the section `.BTF` of an object, or of the file.
 abbrev pub HasTableBytes : InputFile → List ℕ → Type 0
-HasTableBytes (Object object) bytes = IsSection object table_name bytes
+HasTableBytes (Object object) bytes = IsFirstSection object table_name bytes
 HasTableBytes (Table own order) bytes = bytes ≡ own.now
 
 -- The bytes are those of the table of a file.
@@ -61,14 +61,14 @@ abbrev pub IsTableOf : List ℕ → List ℕ → Type 0
 IsTableOf file bytes = (input : InputFile) × IsFile file input × HasTableBytes input bytes
 
 -- The file has this table.
-abbrev pub HasTable : InputFile → tables.Table → Type 0
-HasTable input t = (bytes : List ℕ) × HasTableBytes input bytes × model.IsTable (order_of input) bytes t
+abbrev pub HasFileTable : InputFile → tables.Table → Type 0
+HasFileTable input t = (bytes : List ℕ) × HasTableBytes input bytes × model.IsTable (file_order input) bytes t
 
 -- The file has this table over a base: the bytes of its table are a split table over the base.
 abbrev pub HasSplitTable : InputFile → tables.Table → tables.Table → Type 0
-HasSplitTable input base t = (bytes : List ℕ) × HasTableBytes input bytes × IsJoined (order_of input) base bytes t
+HasSplitTable input base t = (bytes : List ℕ) × HasTableBytes input bytes × IsJoined (file_order input) base bytes t
 
 -- The file is an object, and these are the bytes of its section `.BTF.ext`.
 abbrev pub HasExt : InputFile → List ℕ → Type 0
-HasExt (Object object) bytes = IsSection object ext_name bytes
+HasExt (Object object) bytes = IsFirstSection object ext_name bytes
 HasExt (Table own order) bytes = ⊥

@@ -1,7 +1,7 @@
 //! The comparison of the types of a name in two tables.
 
 ghost use Rattle.std.specs.Prelude.{◌≡◌, ℕ, List, map, IfOk};
-ghost use Rattle.btfobj_cli.specs.Compat.{FindsOrNone, FindsFirst, Finds, AreFindings, like_kinds, finding_text, is_compatible, are_compatible};
+ghost use Rattle.btfobj_cli.specs.Compat.{FindsOrNone, FindsFirst, FindsByName, AreFindings, like_kinds, finding_text, is_compatible, are_compatible};
 ghost use Rattle.btfobj_cli.specs.declared.compatibility.Finding.{Finding};
 
 use crate::fault::Fault;
@@ -92,7 +92,7 @@ impl Finding {
 
 /// Compares the types of a name.
 fn compare(local: &Btf, target: &Btf, name: &str) -> Result<Finding, Fault>
-    ensures { IfOk result (Finds local.now target.now name.now) }
+    ensures { IfOk result (FindsByName local.now target.now name.now) }
 {
     let Some(found) = find_first(local, name, &KINDS)? else {
         return Ok(Finding::NoLocal);

@@ -1,7 +1,7 @@
 //! Files with a table: objects, and tables alone.
 
 ghost use Rattle.std.specs.Prelude.{MatchResult};
-ghost use Rattle.btfobj_cli.specs.InputFile.{IsSection};
+ghost use Rattle.btfobj_cli.specs.InputFile.{IsFirstSection};
 ghost use Rattle.btfobj_cli.specs.Fault.{LacksSection};
 
 use crate::fault::Fault;
@@ -35,7 +35,7 @@ impl<'a> InputFile<'a> {
     ghost use Rattle.std.specs.Prelude.{◌≡◌, true, Err, IfOk, IfErr, IsOkAnd, MatchResult};
     ghost use Rattle.std.specs.Option.{MatchOption};
     ghost use Rattle.btf_model.specs.declared.endianness.Endianness.TheVariants.{Little, Big};
-    ghost use Rattle.btfobj_cli.specs.InputFile.{BeginsObject, BeginsTable, HasExt, HasMagic, HasSplitTable, HasTable, HasTableBytes, IsFile, IsTableAlone, is_object, order_of};
+    ghost use Rattle.btfobj_cli.specs.InputFile.{BeginsObject, BeginsTable, HasExt, HasMagic, HasSplitTable, HasFileTable, HasTableBytes, IsFile, IsTableAlone, is_object, file_order};
     ghost use Rattle.btfobj_cli.specs.Fault.{ReportsObject, ReportsTable, ReportsExt};
     ghost use Rattle.btfobj_cli.specs.declared.fault.Fault.TheVariants as faults;
 
@@ -64,7 +64,7 @@ impl<'a> InputFile<'a> {
 
     /// The byte order of the words.
     pub fn endianness(&self) -> Endianness
-        ensures { result ≡ order_of self.now }
+        ensures { result ≡ file_order self.now }
     {
         match self {
             InputFile::Object(object) => object.header().order,
@@ -86,7 +86,7 @@ impl<'a> InputFile<'a> {
     /// The table. The error is `NoSection` if an object has none, `Table` with the error of `Btf::parse`, or
     /// `OutOfMemory`.
     pub fn table(&self, alloc: Global) -> Result<Btf, Fault>
-        ensures { MatchResult result (HasTable self.now) (ReportsTable self.now) }
+        ensures { MatchResult result (HasFileTable self.now) (ReportsTable self.now) }
     {
         let bytes = self.table_bytes()?;
         Ok(Btf::parse(alloc, bytes, self.endianness())?)
@@ -98,7 +98,7 @@ impl<'a> InputFile<'a> {
     /// The error is `DistilledBase` for an object with a section `.BTF.base`. With a base it is then `NoSection` if an
     /// object has no table, or `Table` with the error of `parse_split`; `OutOfMemory` at any time.
     pub fn table_over(&self, alloc: Global, base: Option<&Btf>) -> Result<Btf, Fault>
-        ensures { IfOk result (λ table. MatchOption base.entry (HasTable self.now table)
+        ensures { IfOk result (λ table. MatchOption base.entry (HasFileTable self.now table)
             (λ base. HasSplitTable self.now base.now table)) }
     {
         if self.has_distilled_base() {
@@ -124,7 +124,7 @@ impl<'a> InputFile<'a> {
     /// The table over its base, as `table_over` returns it, with its errors. Without a base the error is `Split` if names
     /// or ids of its types are not in it.
     pub fn whole_table_over(&self, alloc: Global, base: Option<&Btf>) -> Result<Btf, Fault>
-        ensures { IfOk result (λ table. MatchOption base.entry (HasTable self.now table)
+        ensures { IfOk result (λ table. MatchOption base.entry (HasFileTable self.now table)
             (λ base. HasSplitTable self.now base.now table)) }
     {
         let table = self.table_over(alloc, base)?;
@@ -137,7 +137,7 @@ impl<'a> InputFile<'a> {
     /// The table, as `table` returns it, with its errors. The error is `Split` if names or ids of its types are not in
     /// it.
     pub fn whole_table(&self, alloc: Global) -> Result<Btf, Fault>
-        ensures { IfOk result (HasTable self.now) }
+        ensures { IfOk result (HasFileTable self.now) }
     {
         let table = self.table(alloc)?;
         if continues_base(&table) {
@@ -160,7 +160,7 @@ impl<'a> InputFile<'a> {
 /// The bytes of the first section of a name, or `NoSection`.
 fn section<'a>(object: &Object<'a>, name: &'static str) -> Result<&'a [u8], Fault>
     ensures { MatchResult result
-        (λ bytes. IsSection object.now name.now bytes.now)
+        (λ bytes. IsFirstSection object.now name.now bytes.now)
         (LacksSection object.now name.now) }
 {
     match object.section_by_name(name.as_bytes()) {

@@ -3,7 +3,7 @@
 ghost use Rattle.std.specs.Prelude.{◌≡◌, ℕ, List, None, IfOk};
 ghost use Rattle.btf_object.specs.Kernel.{kernel_has};
 ghost use Rattle.btf_table.specs.Layout.{sizes_of, offsets_of};
-ghost use Rattle.btfobj_cli.specs.InputFile.{HasTable, IsTableOf};
+ghost use Rattle.btfobj_cli.specs.InputFile.{HasFileTable, IsTableOf};
 ghost use Rattle.btfobj_cli.specs.Rewrite.{chosen_target, RewritesTable, RewritesObject, RewritesFile, IsRewritten};
 
 use crate::fault::Fault;
@@ -86,7 +86,7 @@ pub fn sanitize_parsed_input<H: BuildHasher + Clone + Drop>(
     rewrite: &Rewrite<'_>,
     hash_builder: H,
 ) -> Result<(Vec<u8>, ArrayVec<FeatureAnswer, 8>), Fault>
-    requires { HasTable input.now table.now }
+    requires { HasFileTable input.now table.now }
     ensures { IfOk result (λ r. RewritesFile input.now rewrite.now r.0.items r.1.items) }
 {
     match input {

@@ -4,7 +4,7 @@ use Rattle.std.specs.List.{list_any}
 use Rattle.std.proofs.lemmas.Bool.{false≢true}
 use Rattle.std.proofs.lemmas.List.{length-map}
 use Rattle.std.proofs.lemmas.Map.Steps.{length-le_from_distinct_below}
-use Rattle.btf_rewrite_model.specs.Feature.{number}
+use Rattle.btf_rewrite_model.specs.Feature.{feature_number}
 use Rattle.btf_rewrite_model.specs.declared.feature.BtfFeature.TheVariants as features
 use Rattle.btf_table.specs.Features.{numbers, AreDistinct}
 use Rattle.std.specs.Prelude.{IfSome, OnOk}
@@ -35,7 +35,7 @@ some_map : {P Q : Refusal → Type 0} (o : Option Refusal) → ((r : Refusal) �
 some_map None f p = p
 some_map (Some r) f p = f r p
 
-number_lt : (f : BtfFeature) → number f < 8
+number_lt : (f : BtfFeature) → feature_number f < 8
 number_lt features.Func = omega arith
 number_lt features.FuncGlobal = omega arith
 number_lt features.DataSec = omega arith
@@ -48,8 +48,8 @@ number_lt features.Enum64 = omega arith
 numbers_lt : (answers : List FeatureAnswer) (q : ℕ) → list_any (eqb q) (numbers answers) ≡ true → q < 8
 numbers_lt [] q is = absurd (false≢true is)
 numbers_lt (a ∷ answers) q is =
-    elim (eqb q (number a.feature)) as (λ (b : Bool). eqb q (number a.feature) ≡ b → (b || list_any (eqb q) (numbers answers)) ≡ true → q < 8) [
-      | true ↦ λ same _. subst (λ (n : ℕ). n < 8) (sym (eqb-true q (number a.feature) same)) (number_lt a.feature)
+    elim (eqb q (feature_number a.feature)) as (λ (b : Bool). eqb q (feature_number a.feature) ≡ b → (b || list_any (eqb q) (numbers answers)) ≡ true → q < 8) [
+      | true ↦ λ same _. subst (λ (n : ℕ). n < 8) (sym (eqb-true q (feature_number a.feature) same)) (number_lt a.feature)
       | false ↦ λ _ among. numbers_lt answers q among
     ] refl is
 
@@ -57,23 +57,23 @@ numbers_lt (a ∷ answers) q is =
 pub few_answers : (answers : List FeatureAnswer) → AreDistinct answers → length answers ≤ 8
 few_answers answers distinct =
     let most : length (numbers answers) ≤ 8 = length-le_from_distinct_below (numbers answers) 8 distinct (numbers_lt answers) in
-    omega (arith, most, length-map answers (λ (a : FeatureAnswer). number a.feature))
+    omega (arith, most, length-map answers (λ (a : FeatureAnswer). feature_number a.feature))
 
 -- a rewrite with these answers is one for the kernel
 pub for_kernel : (features : ℕ) (policy : FillPolicy) (old : Table) (ids : Option KsymsIds) (layout : Layout) (new : Table) (asked : List FeatureAnswer) (r : Result (ArrayVec FeatureAnswer 8 (Unit {0})) BtfError)
-    → AreAnswersOf features asked → IfOk r (λ a. a.items ≡ asked) → MeetsOrNoMemory (λ a. a.items) r (Rewrites policy old ids layout asked new)
-    → MeetsOrNoMemory (λ a. a.items) r (RewritesForKernel features policy old ids layout new)
+    → AreAnswersOf features asked → IfOk r (λ a. a.items ≡ asked) → MeetsOrNoMemory (λ a. a.items) r (Rewrites (record { policy = policy; ksyms = ids; layout = layout }) old asked new)
+    → MeetsOrNoMemory (λ a. a.items) r (RewritesForKernel features (record { policy = policy; ksyms = ids; layout = layout }) old new)
 for_kernel features policy old ids layout new asked (Ok a) of is rewrites =
-    (subst (λ xs. AreAnswersOf features xs) (sym is) of, subst (λ xs. Rewrites {X = List FeatureAnswer} policy old ids layout xs new (Ok a.items)) (sym is) rewrites)
+    (subst (λ xs. AreAnswersOf features xs) (sym is) of, subst (λ xs. Rewrites {X = List FeatureAnswer} (record { policy = policy; ksyms = ids; layout = layout }) old xs new (Ok a.items)) (sym is) rewrites)
 for_kernel features policy old ids layout new asked (Err e) of is refused =
     some_map (refusal_of e) (λ r found. (asked, of, found)) refused
 
 -- the same for equal tables and layouts
 pub for_handle : (features : ℕ) (policy : FillPolicy) (ids : Option KsymsIds) (t old : Table) (l layout : Layout) (n new : Table) (r : Result (List FeatureAnswer) Refusal)
-    → t ≡ old → l ≡ layout → new ≡ n → RewritesForKernel features policy t ids l n r → RewritesForKernel features policy old ids layout new r
+    → t ≡ old → l ≡ layout → new ≡ n → RewritesForKernel features (record { policy = policy; ksyms = ids; layout = l }) t n r → RewritesForKernel features (record { policy = policy; ksyms = ids; layout = layout }) old new r
 for_handle features policy ids t old l layout n new r same_old same_layout same_new rewrites =
-    subst (λ x. RewritesForKernel features policy x ids layout new r) same_old
-    (subst (λ x. RewritesForKernel features policy t ids x new r) same_layout (subst (λ x. RewritesForKernel features policy t ids l x r) (sym same_new) rewrites))
+    subst (λ x. RewritesForKernel features (record { policy = policy; ksyms = ids; layout = layout }) x new r) same_old
+    (subst (λ x. RewritesForKernel features (record { policy = policy; ksyms = ids; layout = x }) t new r) same_layout (subst (λ x. RewritesForKernel features (record { policy = policy; ksyms = ids; layout = l }) t x r) (sym same_new) rewrites))
 
 -- the features that the answers grant, of equal answers, policies and ids
 pub granted_for : (policy other : FillPolicy) (old new : Table) (ids same : Option KsymsIds) (asked : List FeatureAnswer) (r : Result (ArrayVec FeatureAnswer 8 (Unit {0})) BtfError)

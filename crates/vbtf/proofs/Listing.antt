@@ -6,7 +6,7 @@ use Rattle.std.specs.Prelude.{IsErrAnd}
 use Rattle.std.proofs.lemmas.Result.{err_from_is_err_and}
 use Rattle.btf_model.specs.Record.{Kind, Record, kind_of}
 use Rattle.btf_model.specs.Refusal as refusals
-use Rattle.btf_plain.specs.Items.{member_words, enum_words, enum64_words, param_words, entry_words}
+use Rattle.btf_plain.specs.Items.{member_words, enum_words, enum64_words, param_words, code_entry_words}
 use Rattle.btf_plain.specs.declared.error.BtfError.{BtfError}
 use Rattle.btf_plain.specs.declared.error.BtfError.TheVariants as errors
 use Rattle.btf_plain.specs.declared.items.BtfMember.{BtfMember}
@@ -37,7 +37,7 @@ pub params_listed : (ps : List BtfParam) → params_in (flat_map param_words ps)
 params_listed [] = refl
 params_listed (p ∷ ps) = ap (λ xs. param p.name_offset p.btf_type ∷ xs) (params_listed ps)
 
-pub entries_listed : (es : List DataSecEntry) → entries_in (flat_map entry_words es) ≡ map (λ e. entry e.btf_type e.offset e.size) es
+pub entries_listed : (es : List DataSecEntry) → entries_in (flat_map code_entry_words es) ≡ map (λ e. entry e.btf_type e.offset e.size) es
 entries_listed [] = refl
 entries_listed (e ∷ es) = ap (λ xs. entry e.btf_type e.offset e.size ∷ xs) (entries_listed es)
 

@@ -3,7 +3,7 @@ use Rattle.std.specs.Prelude.{◌≡◌, ℕ, ◌==◌, ◌⊎◌, List, map, ta
 use Rattle.std.specs.List.{AllByRecursion}
 use Rattle.btf_model.specs.Refusal.{Refusal}
 use Rattle.btf_model.specs.Table.{Table}
-use Rattle.btf_rewrite_model.specs.Feature.{number}
+use Rattle.btf_rewrite_model.specs.Feature.{feature_number}
 use Rattle.btf_rewrite_model.specs.FeatureSet.{has_bit}
 use Rattle.btf_rewrite_model.specs.declared.feature.FeatureAnswer.{FeatureAnswer}
 use Rattle.btf_rewrite_model.specs.declared.feature.FillPolicy.{FillPolicy}
@@ -11,7 +11,8 @@ use Rattle.btf_rewrite_model.specs.declared.feature.FillPolicy.TheVariants.{Keep
 use Rattle.btf_rewrite_model.specs.declared.ksyms_ids.KsymsIds.{KsymsIds}
 use Rattle.btf_rewrite_model.specs.Pass.{Layout}
 use Rattle.btf_table.specs.KsymsStep.{ksyms_ids}
-use Rattle.btf_table.specs.Rewrites.{Rewrites}
+use Rattle.btf_table.specs.PassStep.{BeginsAsked}
+use Rattle.btf_table.specs.Rewrites.{Rewrite, Rewrites, NeedsAreGranted, pass_for}
 use Rattle.vbtf.specs.declared.kernel.Kernel.{Kernel}
 use Rattle.vbtf.specs.declared.kernel.Asked.{Asked}
 use Rattle.vbtf.specs.declared.fault.Fault.{Fault}
@@ -41,18 +42,33 @@ granted_number answer = if answer.granted then 1 else 0
 -- The reported features are those of the answers, in order.
 pub record ListsAnswers (asked : Asked) (answers : List FeatureAnswer) : Type 0 where
   pub count : asked.count ≡ length answers
-  pub features : take asked.count asked.features ≡ map (λ answer. number answer.feature) answers
+  pub features : take asked.count asked.features ≡ map (λ answer. feature_number answer.feature) answers
   pub granted : take asked.count asked.granted ≡ map granted_number answers
 
 -- The outcomes of the rewrite of a table for a kernel with these features: the answers that it got, or an error.
-abbrev pub RewritesForKernel : ℕ → FillPolicy → Table → Option KsymsIds → Layout → Table
-    → Result (List FeatureAnswer) Refusal → Type 0
-RewritesForKernel features policy old ids layout new (Ok listed) =
-    AreAnswersOf features listed
-    × Rewrites {X = List FeatureAnswer} policy old ids layout listed new (Ok listed)
-RewritesForKernel features policy old ids layout new (Err refusal) =
+abbrev pub RewritesForKernel : ℕ → Rewrite → Table → Table → Result (List FeatureAnswer) Refusal → Type 0
+RewritesForKernel features w old new (Ok listed) =
+    AreAnswersOf features listed × Rewrites {X = List FeatureAnswer} w old listed new (Ok listed)
+RewritesForKernel features w old new (Err refusal) =
     (answers : List FeatureAnswer) × AreAnswersOf features answers
-    × Rewrites {X = List FeatureAnswer} policy old ids layout answers new (Err refusal)
+    × Rewrites {X = List FeatureAnswer} w old answers new (Err refusal)
+
+-- the rewrite that a C program asks for
+abbrev pub rewrite_chosen : Kernel → Layout → Rewrite
+rewrite_chosen kernel layout =
+    record { policy = policy_chosen kernel; ksyms = ids_chosen kernel; layout = layout }
+
+-- The reported features are the first ones that the rewrite of a table asks for, each with whether the kernel has it.
+abbrev pub ReportsAsked : Kernel → Layout → Table → Asked → Type 0
+ReportsAsked kernel layout old asked =
+    (listed : List FeatureAnswer) × ListsAnswers asked listed × AreAnswersOf kernel.features listed
+    × BeginsAsked (pass_for (rewrite_chosen kernel layout) old listed)
+
+-- The kernel has each feature that it needs for the new table; each was asked for once, and is reported as granted.
+abbrev pub ReportsGranted : Kernel → Table → Table → Asked → Type 0
+ReportsGranted kernel old new asked =
+    (listed : List FeatureAnswer) × ListsAnswers asked listed
+    × NeedsAreGranted (policy_chosen kernel) old (ids_chosen kernel) listed new
 
 -- The outcomes of a rewrite for C: status 0, and the handle owns the rewritten table; or an error or a failed
 -- allocation, and the handle owns the unchanged table, whose index may be closed.
@@ -60,9 +76,7 @@ abbrev pub EndsRewriting : ℕ → Kernel → Layout → Handle → Handle → A
 EndsRewriting status kernel layout old new asked fault =
     (new.state ≡ 1) × (new.opened.ext ≡ old.opened.ext)
     × (((status ≡ 0) × (new.opened.index ≡ None) × (listed : List FeatureAnswer) × ListsAnswers asked listed
-    × RewritesForKernel kernel.features (policy_chosen kernel) old.opened.btf (ids_chosen kernel) layout
-    new.opened.btf (Ok listed))
+    × RewritesForKernel kernel.features (rewrite_chosen kernel layout) old.opened.btf new.opened.btf (Ok listed))
     ⊎ ((new.opened.btf ≡ old.opened.btf)
     × ((new.opened.index ≡ None) ⊎ (new.opened.index ≡ old.opened.index)) × Fails status fault
-    (RewritesForKernel kernel.features (policy_chosen kernel) old.opened.btf (ids_chosen kernel) layout
-    new.opened.btf)))
+    (RewritesForKernel kernel.features (rewrite_chosen kernel layout) old.opened.btf new.opened.btf)))

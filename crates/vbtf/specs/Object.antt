@@ -5,7 +5,7 @@ use Rattle.btf_elf_model.specs.declared.error.ParseError.TheVariants as parse
 use Rattle.btf_elf.specs.declared.error.ObjectError.TheVariants as elf
 use Rattle.btf_elf.specs.declared.error.ReplaceError.TheVariants as replace
 use Rattle.btf_object_model.specs.Sanitized.{Target, IsSanitized}
-use Rattle.btf_object.specs.Errors.{IsCause}
+use Rattle.btf_object.specs.Errors.{IsSanitizeCause}
 use Rattle.btf_object.specs.declared.error.SanitizeError.{SanitizeError}
 use Rattle.btf_object.specs.declared.error.SanitizeError.TheVariants.{Object, NoTable, Table, Section, OutOfMemory}
 use Rattle.btf_rewrite_model.specs.declared.feature.FeatureAnswer.{FeatureAnswer}
@@ -76,4 +76,4 @@ abbrev pub EndsSanitizing : ℕ → List ℕ → Target → List ℕ → List �
 EndsSanitizing status object target old new needed asked fault =
     ((file : List ℕ) × (answers : List FeatureAnswer) × IsSanitized object target file answers
     × ListsAnswers asked answers × Fills file old new needed status)
-    ⊎ ((new ≡ old) × ((e : SanitizeError) × IsCause object target e × ReportsCause status fault e))
+    ⊎ ((new ≡ old) × ((e : SanitizeError) × IsSanitizeCause object target e × ReportsCause status fault e))

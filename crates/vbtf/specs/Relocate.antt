@@ -2,7 +2,7 @@
 use Rattle.std.specs.Prelude.{◌≡◌, ◌⊎◌, ◌==◌, ℕ, ◌/◌, ◌%◌, Bool, true, false, List, [], length, unwrap_or, flat_map, count_by, None, Result, Ok, Err}
 use Rattle.std.specs.Io.Iter.{u64_saturate}
 use Rattle.btf_elf.specs.declared.error.ObjectError.TheVariants as elf
-use Rattle.btf_loader.specs.Errors.{IsCause}
+use Rattle.btf_loader.specs.Errors.{IsLoaderCause}
 use Rattle.btf_loader.specs.declared.error.LoaderError.{LoaderError}
 use Rattle.btf_loader.specs.declared.error.LoaderError.TheVariants.{Object, NoTable, Table, Ext, SectionName, SharedPlace, Refused, OutOfMemory}
 use Rattle.btf_loader_model.specs.Loader.{Outcomes, IsRelocated, any_error, is_error}
@@ -34,10 +34,10 @@ abbrev pub Outcome : Type 0
 Outcome = Result Patched RelocationError
 
 -- the instruction of the record is poisoned
-abbrev pub poisons : Outcome → Bool
-poisons (Ok Written) = false
-poisons (Ok Poisoned) = true
-poisons (Err error) = false
+abbrev pub poisons_instruction : Outcome → Bool
+poisons_instruction (Ok Written) = false
+poisons_instruction (Ok Poisoned) = true
+poisons_instruction (Err error) = false
 
 -- the outcomes of the records of a section; none if it has no code in the file
 abbrev pub outcomes_in : ℕ × Outcomes → List Outcome
@@ -50,7 +50,7 @@ all_outcomes sections = flat_map outcomes_in sections
 -- The numbers of records, of poisoned instructions and of errors; 2^64 - 1 for a number that does not fit.
 pub record Counts (tally : Tally) (outcomes : List Outcome) : Type 0 where
   pub records : tally.records ≡ u64_saturate (length outcomes)
-  pub poisoned : tally.poisoned ≡ u64_saturate (count_by poisons outcomes)
+  pub poisoned : tally.poisoned ≡ u64_saturate (count_by poisons_instruction outcomes)
   pub refused : tally.refused ≡ u64_saturate (count_by is_error outcomes)
 
 -- ---- errors
@@ -141,5 +141,5 @@ EndsRelocating status object target options old new needed old_tally tally fault
     (FillsRelocated status object target options old new needed tally
     × IsReason object target (shares_candidates options) (refuses_records options) None)
     ⊎ ((new ≡ old) × (tally ≡ old_tally) × ((e : LoaderError)
-    × IsCause (IsReason object target (shares_candidates options) (refuses_records options)) e
+    × IsLoaderCause (IsReason object target (shares_candidates options) (refuses_records options)) e
     × ReportsReason status fault e))

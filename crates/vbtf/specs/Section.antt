@@ -1,11 +1,11 @@
 -- Sections of an object, for C.
 use Rattle.std.specs.Prelude.{◌≡◌, ◌⊎◌, ℕ, List, length, Option, Some, None, slice_get}
 use Rattle.btf_elf.specs.declared.error.ObjectError.{ObjectError}
-use Rattle.btf_elf.specs.Results.{IsReason}
+use Rattle.btf_elf.specs.Results.{IsElfError}
 use Rattle.btf_elf_model.specs.Object.{Object, IsObject, section_bytes}
 use Rattle.btf_elf_model.specs.declared.section_header.SectionHeader.{SectionHeader}
 use Rattle.btf_object.specs.declared.error.SanitizeError.TheVariants as causes
-use Rattle.btf_object_model.specs.Sanitized.{HasSection, index_of}
+use Rattle.btf_object_model.specs.Sanitized.{HasSection, first_section_index}
 use Rattle.vbtf.specs.Object.{ReportsNumber, ReportsCause}
 use Rattle.vbtf.specs.Orders.{order_number}
 use Rattle.vbtf.specs.Status.{no_details}
@@ -18,9 +18,9 @@ place_in o s = record { offset = s.offset; len = length (section_bytes o s); ord
 
 -- the place of the first section of a name, if there is one
 abbrev pub FindsSection : Object → List ℕ → Option Place → Type 0
-FindsSection o name None = index_of o name ≡ None
+FindsSection o name None = first_section_index o name ≡ None
 FindsSection o name (Some place) =
-    (index : ℕ) × (s : SectionHeader) × (index_of o name ≡ Some index) × (slice_get o.sections index ≡ Some s)
+    (index : ℕ) × (s : SectionHeader) × (first_section_index o name ≡ Some index) × (slice_get o.sections index ≡ Some s)
     × (place ≡ place_in o s)
 
 -- The outcomes of a call that finds the first section of a name in an object: status 0 and its place; or status 105 if
@@ -31,5 +31,5 @@ EndsLocating status bytes name old new fault =
     ((o : Object) × (index : ℕ) × (s : SectionHeader) × HasSection bytes name o index s × (status ≡ 0)
     × (new ≡ place_in o s))
     ⊎ ((new ≡ old)
-    × (((o : Object) × IsObject bytes o × (index_of o name ≡ None) × ReportsNumber status fault 105 no_details)
-    ⊎ ((e : ObjectError) × IsReason bytes e × ReportsCause status fault (causes.Object e))))
+    × (((o : Object) × IsObject bytes o × (first_section_index o name ≡ None) × ReportsNumber status fault 105 no_details)
+    ⊎ ((e : ObjectError) × IsElfError bytes e × ReportsCause status fault (causes.Object e))))

@@ -3,7 +3,7 @@
 ghost use Rattle.std.specs.Prelude.{◌≡◌, ◌≢◌, ◌⊎◌};
 ghost use Rattle.btf_model.specs.Fields.{Fields};
 ghost use Rattle.btf_compare.specs.Compared.{ComparesTypes};
-ghost use Rattle.btf_compare.specs.Pairs.{pair};
+ghost use Rattle.btf_compare.specs.Pairs.{id_pair};
 ghost use Rattle.vbtf.specs.Status.{EndsOrNoMemory, KeepsHandle};
 
 use crate::fault::{CLOSED, Fault, report};
@@ -64,7 +64,7 @@ pub extern "C" fn vbtf_lent_types_compatible(
 ) -> u32
     ensures compared { local.old.state ≡ 2 → target.old.state ≡ 2
         → EndsOrNoMemory result answer.new fault.new
-        (ComparesTypes local.old.opened.btf target.old.opened.btf (pair local_id target_id)) }
+        (ComparesTypes local.old.opened.btf target.old.opened.btf (id_pair local_id target_id)) }
     ensures closed { (local.old.state ≢ 2) ⊎ (target.old.state ≢ 2) → result ≡ CLOSED }
     ensures kept_local { KeepsHandle local.old local.new }
     ensures kept_target { KeepsHandle target.old target.new }

@@ -1,14 +1,11 @@
 //! The rewrite of a table for a kernel that lacks some features.
 
-ghost use Rattle.std.specs.Prelude.{◌≡◌, ◌≢◌, ◌⊎◌, List, IfOk, OnOk, OnErr};
-ghost use Rattle.btf_rewrite_model.specs.declared.feature.FeatureAnswer.{FeatureAnswer};
+ghost use Rattle.std.specs.Prelude.{◌≡◌, ◌≢◌, ◌⊎◌, IfOk, OnOk, OnErr};
 ghost use Rattle.btf.specs.Layout.{layout_of};
 ghost use Rattle.btf_table.specs.Rewrites.{NeedsAreGranted, KeepsMeaning};
 ghost use Rattle.btf_plain.specs.Error.{MeetsOrNoMemory};
-ghost use Rattle.btf_rewrite_model.specs.Rewritten.{pass_of};
-ghost use Rattle.btf_table.specs.PassStep.{BeginsAsked};
 ghost use Rattle.btf_rewrite_model.specs.FeatureSet.{has_bit};
-ghost use Rattle.vbtf.specs.Kernel.{AreAnswersOf, policy_chosen, ids_chosen, ListsAnswers, RewritesForKernel, EndsRewriting};
+ghost use Rattle.vbtf.specs.Kernel.{policy_chosen, ids_chosen, rewrite_chosen, ListsAnswers, RewritesForKernel, ReportsAsked, ReportsGranted, EndsRewriting};
 ghost use Rattle.vbtf.specs.Program.{layout_named, AreReadableEntries};
 ghost use Rattle.vbtf.specs.Status.{no_memory};
 
@@ -53,15 +50,11 @@ pub extern "C" fn vbtf_raw_rewrite(
         → ((result ≡ INVALID_ARGUMENT) ⊎ (result ≡ no_memory)) × (table.new ≡ table.old) }
     // Whether the rewrite succeeds or fails, the reported features are the first ones that it asks for, each with
     // whether the kernel has it; there are none if the call fails before the rewrite begins.
-    ensures asked { (listed : List FeatureAnswer) × ListsAnswers asked.new listed
-        × AreAnswersOf kernel.now.features listed
-        × BeginsAsked (pass_of (policy_chosen kernel.now) table.old.opened.btf
-        (ids_chosen kernel.now) (layout_named section_names.now sections.now symbol_names.now
-        symbols.now) listed) }
+    ensures asked { ReportsAsked kernel.now (layout_named section_names.now sections.now
+        symbol_names.now symbols.now) table.old.opened.btf asked.new }
     // The kernel has each feature that it needs for the new table.
-    ensures granted { result ≡ 0 → (listed : List FeatureAnswer) × ListsAnswers asked.new listed
-        × NeedsAreGranted (policy_chosen kernel.now) table.old.opened.btf
-        (ids_chosen kernel.now) listed table.new.opened.btf }
+    ensures granted { result ≡ 0 → ReportsGranted kernel.now table.old.opened.btf
+        table.new.opened.btf asked.new }
     // The record states which sizes, resolutions and values of variants are unchanged, and that at most four types
     // are appended.
     ensures kept { result ≡ 0 → KeepsMeaning table.old.opened.btf table.new.opened.btf }
@@ -96,14 +89,12 @@ fn rewritten(
     asked: &mut Asked,
 ) -> Result<ArrayVec<FeatureAnswer, 8>, BtfError>
     ensures rewrites { MeetsOrNoMemory (λ a. a.items) result
-        (RewritesForKernel kernel.now.features (policy_chosen kernel.now) btf.old
-        (ids_chosen kernel.now) (layout_of program.now.sections program.now.symbols) btf.new) }
+        (RewritesForKernel kernel.now.features (rewrite_chosen kernel.now
+        (layout_of program.now.sections program.now.symbols)) btf.old btf.new) }
     ensures err { OnErr result (btf.new ≡ btf.old) }
     ensures listed { IfOk result (λ a. ListsAnswers asked.new a.items) }
-    ensures asked { (listed : List FeatureAnswer) × ListsAnswers asked.new listed
-        × AreAnswersOf kernel.now.features listed
-        × BeginsAsked (pass_of (policy_chosen kernel.now) btf.old (ids_chosen kernel.now)
-        (layout_of program.now.sections program.now.symbols) listed) }
+    ensures asked { ReportsAsked kernel.now
+        (layout_of program.now.sections program.now.symbols) btf.old asked.new }
     ensures granted { IfOk result (λ a. NeedsAreGranted (policy_chosen kernel.now) btf.old
         (ids_chosen kernel.now) a.items btf.new) }
     ensures kept { OnOk result (KeepsMeaning btf.old btf.new) }

@@ -2,7 +2,7 @@
 
 ghost use Rattle.btf_elf_model.specs.Object as elf;
 ghost use Rattle.btf_elf_model.specs.declared.section_header.SectionHeader.{SectionHeader};
-ghost use Rattle.btf_object_model.specs.Sanitized.{index_of};
+ghost use Rattle.btf_object_model.specs.Sanitized.{first_section_index};
 ghost use Rattle.std.specs.Prelude.{◌≡◌};
 ghost use Rattle.std.specs.Option.{MatchOption};
 ghost use Rattle.vbtf.specs.Section.{EndsLocating, FindsSection};

@@ -4,7 +4,7 @@ ghost use Rattle.std.specs.Prelude.{◌≡◌, map};
 ghost use Rattle.btf_model.specs.Table as model;
 ghost use Rattle.btf_model.specs.Value.{FindsVariant};
 ghost use Rattle.btf_plain.specs.Error.{MeetsOrNoMemory, Meets};
-ghost use Rattle.btf_plain.specs.Fallback.{variant_of};
+ghost use Rattle.btf_plain.specs.Fallback.{fallback_variant};
 ghost use Rattle.btf_above.specs.Variants.{enum_variant, enum64_variant, HaveUtf8Names};
 
 use btf_plain::BtfError;
@@ -50,7 +50,7 @@ impl Variant for BtfEnum64 {
 }
 
 impl Variant for Enum64VariantFallback {
-    ghost variant = { variant_of };
+    ghost variant = { fallback_variant };
 
     fn name_offset(&self) -> u32 {
         self.name_offset

@@ -4,12 +4,12 @@ ghost use Rattle.btf_model.specs.Record.{vlen};
 ghost use Rattle.std.specs.Prelude.{◌≡◌, ◌<◌, ◌≤◌, ◌^◌, [], ◌∷◌, false, length, map, IfOk, IfErr, IfSome, IfNone, OnOk};
 ghost use Rattle.std.specs.Option.{option_map};
 ghost use Rattle.btf_rewrite_model.specs.Made.{entries};
-ghost use Rattle.btf_table.specs.KsymsStep.{entry as entry_of};
+ghost use Rattle.btf_table.specs.KsymsStep.{model_entry as entry_of};
 ghost use Rattle.btf_object_model.specs.Kconfig as model;
 ghost use Rattle.btf_object_model.specs.Kconfig.{FindsText, FindsValue, FindsExtern, FindsExterns, IsConfigured, total};
 ghost use Rattle.btf_rewrite_model.specs.Made.{kind_at};
-ghost use Rattle.btf_object_model.specs.Finalized.{is_data_sec};
-ghost use Rattle.btf_object.specs.Kconfig.{value_of, extern_of, is_var, IsVariable, IsDataSec, LaysOutSection, MakesGlobal, FindsKconfig, HasDataSecOf, PutsSection};
+ghost use Rattle.btf_object_model.specs.Finalized.{has_data_sec_kind};
+ghost use Rattle.btf_object.specs.Kconfig.{config_value_of, model_extern, has_var_kind, IsVariable, IsDataSec, LaysOutSection, MakesGlobal, FindsKconfig, HasDataSecOf, PutsSection};
 
 use crate::names::NAME_LIMIT;
 use btf_plain::{BtfArray, BtfError, BtfKind, DataSecEntry, Var, VarLinkage};
@@ -41,7 +41,7 @@ struct Extern<'a> {
 /// The variable of an id, if its type is a VAR.
 fn variable(btf: &Btf, type_id: u32) -> Option<&Var>
     ensures some { IfSome result (λ var. IsVariable btf.now type_id var.now) }
-    ensures none { IfNone result (is_var (kind_at btf.now type_id) ≡ false) }
+    ensures none { IfNone result (has_var_kind (kind_at btf.now type_id) ≡ false) }
 {
     match btf.type_by_id(type_id).ok()? {
         BtfType::Var(var) => Some(var),
@@ -52,7 +52,7 @@ fn variable(btf: &Btf, type_id: u32) -> Option<&Var>
 /// The DATASEC of an id, if its type is one.
 fn data_sec(btf: &Btf, type_id: u32) -> Option<&DataSec>
     ensures some { IfSome result (λ data_sec. IsDataSec btf.now type_id data_sec.now) }
-    ensures none { IfNone result (is_data_sec (kind_at btf.now type_id) ≡ false) }
+    ensures none { IfNone result (has_data_sec_kind (kind_at btf.now type_id) ≡ false) }
 {
     match btf.type_by_id(type_id).ok()? {
         BtfType::DataSec(data_sec) => Some(data_sec),
@@ -62,7 +62,7 @@ fn data_sec(btf: &Btf, type_id: u32) -> Option<&DataSec>
 
 /// A number of this size, which is 1, 2, 4 or 8 bytes.
 fn number(size: u32) -> Option<Value>
-    ensures { option_map value_of result ≡ model.number size }
+    ensures { option_map config_value_of result ≡ model.config_number size }
 {
     match size {
         1 | 2 | 4 | 8 => Some(Value {
@@ -77,7 +77,7 @@ fn number(size: u32) -> Option<Value>
 fn text(btf: &Btf, array: &BtfArray) -> Option<Value>
     ensures { FindsText btf.now
         (array.now.element_type ∷ array.now.index_type ∷ array.now.len ∷ [])
-        (option_map value_of result) }
+        (option_map config_value_of result) }
 {
     let element = btf.resolve_type(array.element_type).ok()?;
     match btf.type_by_id(element).ok()? {
@@ -91,7 +91,7 @@ fn text(btf: &Btf, array: &BtfArray) -> Option<Value>
 
 /// The value of a type, after its modifiers: a number for an INT or an enumeration, or a text.
 fn type_value(btf: &Btf, type_id: u32) -> Option<Value>
-    ensures { FindsValue btf.now type_id (option_map value_of result) }
+    ensures { FindsValue btf.now type_id (option_map config_value_of result) }
 {
     let resolved = btf.resolve_type(type_id).ok()?;
     match btf.type_by_id(resolved).ok()? {
@@ -105,7 +105,7 @@ fn type_value(btf: &Btf, type_id: u32) -> Option<Value>
 
 /// The extern of an entry, if its value and its name are known.
 fn extern_of<'a>(btf: &'a Btf, entry: &'a DataSecEntry) -> Option<Extern<'a>>
-    ensures { FindsExtern btf.now (entry_of entry.now) (option_map extern_of result) }
+    ensures { FindsExtern btf.now (entry_of entry.now) (option_map model_extern result) }
 {
     let var = variable(btf, entry.btf_type)?;
     let Some(value) = type_value(btf, var.btf_type()) else {
@@ -122,7 +122,7 @@ fn externs_of<'a>(
     data_sec: &'a DataSec,
 ) -> Result<Option<Vec<Extern<'a>>>, AllocError>
     ensures known { IfOk result (λ found. FindsExterns btf.now (entries data_sec.now.tail)
-        (option_map (λ v. map extern_of v.items) found)) }
+        (option_map (λ v. map model_extern v.items) found)) }
     ensures count { IfOk result (λ found. IfSome found
         (λ v. length v.items ≡ vlen data_sec.now.info)) }
 {
@@ -142,10 +142,10 @@ fn laid_out(
     externs: &[Extern<'_>],
 ) -> Result<Option<(Vec<DataSecEntry>, u32)>, AllocError>
     ensures some { IfOk result (λ o. IfSome o (λ made.
-        (map entry_of made.0.items ≡ model.laid_out 0 (map extern_of externs.now))
-        × (made.1 ≡ total (map extern_of externs.now)) × (made.1 < 2 ^ 32))) }
+        (map entry_of made.0.items ≡ model.externs_laid_out 0 (map model_extern externs.now))
+        × (made.1 ≡ total (map model_extern externs.now)) × (made.1 < 2 ^ 32))) }
     ensures none { IfOk result (λ o. IfNone o
-        (2 ^ 32 ≤ total (map extern_of externs.now))) }
+        (2 ^ 32 ≤ total (map model_extern externs.now))) }
 {
     let mut entries = Vec::with_capacity(alloc, externs.len())?;
     let mut size = 0u32;

@@ -5,8 +5,8 @@ ghost use Rattle.btf_model.specs.Text.{text_at};
 ghost use Rattle.btf_rewrite_model.specs.Checks.{in_a_word};
 ghost use Rattle.btf_rewrite_model.specs.Pass.{Layout};
 ghost use Rattle.btf_table.specs.Layout.{layout_of, sizes_of, offsets_of};
-ghost use Rattle.btf_object_model.specs.Finalized.{is_of_externs, if_positive, section_size};
-ghost use Rattle.btf_object.specs.Finalize.{symbol_of, AreRead};
+ghost use Rattle.btf_object_model.specs.Finalized.{is_of_externs, if_positive, known_section_size};
+ghost use Rattle.btf_object.specs.Finalize.{symbol_of, AreNamesCached};
 
 use crate::layout::ObjectLayout;
 use btf_plain::{BtfError, SectionIndex};
@@ -57,7 +57,7 @@ fn read_size<G: BuildHasher>(
     name_offset: u32,
 ) -> Result<(Option<u32>, bool), BtfError>
     ensures made { (layout : Layout) → layout.sections ≡ sizes_of sections.now
-        → IfOk result (λ r. r.0 ≡ section_size layout (text_at btf.now.strings name_offset)) }
+        → IfOk result (λ r. r.0 ≡ known_section_size layout (text_at btf.now.strings name_offset)) }
     ensures memory { IfErr result (λ e. e ≡ BtfError.OutOfMemory) }
 {
     let name = match btf.string_at(name_offset) {
@@ -98,7 +98,7 @@ impl KnownNames {
 
     /// An empty cache. Allocates no memory.
     pub fn new(alloc: Global) -> KnownNames
-        ensures { (strings : List ℕ) (layout : Layout) → AreRead strings layout result }
+        ensures { (strings : List ℕ) (layout : Layout) → AreNamesCached strings layout result }
     {
         KnownNames {
             sizes: BTreeMap::new(alloc),
@@ -113,13 +113,14 @@ impl KnownNames {
         layout: &ObjectLayout<H>,
         name_offset: u32,
     ) -> Result<Option<u32>, BtfError>
-        requires { AreRead btf.now.strings
+        requires { AreNamesCached btf.now.strings
             (layout_of layout.now.sections layout.now.symbols) self.old }
         ensures made { IfOk result (λ size. size
-            ≡ section_size (layout_of layout.now.sections layout.now.symbols)
+            ≡ known_section_size (layout_of layout.now.sections layout.now.symbols)
             (text_at btf.now.strings name_offset)) }
         ensures read { OnOk result
-            (AreRead btf.now.strings (layout_of layout.now.sections layout.now.symbols) self.new) }
+            (AreNamesCached btf.now.strings (layout_of layout.now.sections layout.now.symbols)
+            self.new) }
         ensures memory { IfErr result (λ e. e ≡ BtfError.OutOfMemory) }
     {
         if let Some(size) = self.sizes.get(&name_offset) {
@@ -140,13 +141,14 @@ impl KnownNames {
         layout: &ObjectLayout<H>,
         name_offset: u32,
     ) -> Result<Option<Option<u32>>, BtfError>
-        requires { AreRead btf.now.strings
+        requires { AreNamesCached btf.now.strings
             (layout_of layout.now.sections layout.now.symbols) self.old }
         ensures made { IfOk result (λ symbol. symbol
             ≡ symbol_of (layout_of layout.now.sections layout.now.symbols)
             (text_at btf.now.strings name_offset)) }
         ensures read { OnOk result
-            (AreRead btf.now.strings (layout_of layout.now.sections layout.now.symbols) self.new) }
+            (AreNamesCached btf.now.strings (layout_of layout.now.sections layout.now.symbols)
+            self.new) }
         ensures memory { IfErr result (λ e. e ≡ BtfError.OutOfMemory) }
     {
         if let Some(symbol) = self.symbols.get(&name_offset) {

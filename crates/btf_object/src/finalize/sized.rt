@@ -3,7 +3,7 @@
 ghost use Rattle.std.specs.Prelude.{◌≡◌, ◌<◌, length, map, None, Some, Ok, IfOk, IfErr, OnOk};
 ghost use Rattle.btf_model.specs.Table.{Table};
 ghost use Rattle.btf_records.specs.BtfType.{record_of};
-ghost use Rattle.btf_object_model.specs.Finalized.{with_ksyms_size, sized};
+ghost use Rattle.btf_object_model.specs.Finalized.{with_ksyms_size, with_old_sizes};
 ghost use Rattle.btf_object_model.specs.Ksyms.{FindsKsyms};
 ghost use Rattle.btf_object.specs.Finalize.{data_sec_size, ResizesAt};
 
@@ -91,7 +91,7 @@ fn set_size(alloc: Global, btf: &mut Btf, type_id: u32, size: u32) -> Result<(),
 /// the only error.
 pub fn set_sizes(alloc: Global, btf: &mut Btf, sizes: &[Option<u32>]) -> Result<(), BtfError>
     ensures made { (base : Table) → sizes.now ≡ map data_sec_size base.records
-        → OnOk result (btf.new ≡ sized base btf.old) }
+        → OnOk result (btf.new ≡ with_old_sizes base btf.old) }
     ensures memory { IfErr result (λ e. e ≡ BtfError.OutOfMemory) }
 {
     for type_id in 0..type_count(btf) {

@@ -63,7 +63,7 @@ fn pair(is_pointee: bool, local: u32, target: u32) -> Pair
 
 /// Two prototypes, which need as many parameters.
 fn prototypes<'t>(is_pointee: bool, one: &'t FuncProto, other: &'t FuncProto) -> Step<'t>
-    ensures { step_view result ≡ model.prototypes is_pointee one.now other.now }
+    ensures { step_view result ≡ model.prototype_step is_pointee one.now other.now }
 {
     let (params, others) = (one.params(), other.params());
     if params.len() != others.len() {

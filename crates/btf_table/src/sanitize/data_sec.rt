@@ -12,7 +12,7 @@ ghost use Rattle.btf_rewrite_model.specs.declared.feature.BtfFeature.{BtfFeature
 ghost use Rattle.btf_rewrite_model.specs.declared.feature.FeatureAnswer.{FeatureAnswer};
 ghost use Rattle.btf_rewrite_model.specs.Made as model;
 ghost use Rattle.btf_rewrite_model.specs.Made.{entries};
-ghost use Rattle.btf_rewrite_model.specs.Checks.{first_fault, is_read};
+ghost use Rattle.btf_rewrite_model.specs.Checks.{first_fault, name_is_read};
 ghost use Rattle.btf_rewrite_model.specs.Pass.{Pass, gets_filler, size_by_name};
 ghost use Rattle.btf_rewrite_model.specs.Rule.{entry_members, placed};
 ghost use Rattle.btf_rewrite_model.specs.Fault.{member_checks, entry_checks, is_sized};
@@ -21,11 +21,11 @@ ghost use Rattle.btf_plain.specs.Error.{MeetsOrNoMemory, IsOrNoMemory};
 ghost use Rattle.btf_records.specs.BtfType.{record_of, fallback_of};
 ghost use Rattle.btf_table.specs.Adding.{HasRoom};
 ghost use Rattle.btf_table.specs.Checked.{checked};
-ghost use Rattle.btf_table.specs.Features.{Called, Asks, IsFurther};
+ghost use Rattle.btf_table.specs.Features.{AsksResolver, CallsFurther, IsFurther};
 ghost use Rattle.btf_table.specs.Layout.{sizes_of, offsets_of, layout_of};
 ghost use Rattle.btf_table.specs.ReadNames.{AreFound, AreRead};
 ghost use Rattle.btf_table.specs.Readable.{IsReadableEnd};
-ghost use Rattle.btf_table.specs.PassStep.{Given, pass_on, under, Comes, AsksUpTo, Steps, Rules};
+ghost use Rattle.btf_table.specs.PassStep.{Given, pass_on, given_by, AsksInPass, StepsInPass, Rules};
 ghost use Rattle.btf_table.specs.SectionStep.{HasNewName, final_size, is_fillable, asks_zero};
 ghost use Rattle.btf_records.specs.declared.btf_type.BtfType.{BtfType};
 
@@ -73,25 +73,13 @@ pub fn rewrite_section<F: FnMut(BtfFeature) -> bool, G: BuildHasher, H: BuildHas
         (layout_of request.now.sections.now request.now.symbols.now) names.old }
     requires callable { F.IsAlwaysCallable resolver.old.predicate }
     ensures callable { F.IsAlwaysCallable resolver.new.predicate }
-    ensures called { (first : F) → Called F.step first resolver.old.answers resolver.old.predicate
-        → Called F.step first resolver.new.answers resolver.new.predicate }
+    ensures called { CallsFurther F.step resolver.old resolver.new }
     ensures further { IsFurther resolver.old.answers resolver.new.answers }
-    ensures asks { (given : Given) (id : ℕ)
-        → given ≡ under request.now.policy
-        (layout_of request.now.sections.now request.now.symbols.now)
-        → Comes btf.now given id (BtfType.DataSec data_sec.now) resolver.old.answers
-        resolver.new.answers made.old
-        → (left : List BtfFeature)
-        × AsksUpTo (pass_on btf.now given resolver.old.answers) id
-        resolver.new.answers left }
-    ensures steps { (given : Given) (id : ℕ)
-        → given ≡ under request.now.policy
-        (layout_of request.now.sections.now request.now.symbols.now)
-        → Comes btf.now given id (BtfType.DataSec data_sec.now) resolver.old.answers
-        resolver.new.answers made.old
-        → MeetsOrNoMemory (λ new. unwrap_or new (BtfType.DataSec data_sec.now)) result
-        (Steps (pass_on btf.now given resolver.old.answers) id resolver.new.answers
-        (BtfType.DataSec data_sec.now) made.old made.new) }
+    ensures asks { AsksInPass btf.now (given_by request.now) (BtfType.DataSec data_sec.now)
+        resolver.old.answers resolver.new.answers made.old }
+    ensures steps { StepsInPass btf.now (given_by request.now) (BtfType.DataSec data_sec.now)
+        resolver.old.answers resolver.new.answers made.old made.new
+        (λ new. unwrap_or new (BtfType.DataSec data_sec.now)) result }
     ensures read { OnOk result
         (AreRead btf.now.strings
         (layout_of request.now.sections.now request.now.symbols.now) names.new) }
@@ -153,7 +141,7 @@ fn final_size<G: BuildHasher>(
         → p.layout.sections ≡ sizes_of sections.now
         → IsOrNoMemory (λ n. n) result
         (checked (first_fault
-        (is_read (text_at btf.now.strings data_sec.now.name)
+        (name_is_read (text_at btf.now.strings data_sec.now.name)
         ∷ is_sized (size_by_name p (text_at btf.now.strings data_sec.now.name))
         (text_at btf.now.strings data_sec.now.name) ∷ []))
         (unwrap_or (size_by_name p (text_at btf.now.strings data_sec.now.name)) 0)) }
@@ -188,7 +176,7 @@ fn wants_filler<F: FnMut(BtfFeature) -> bool>(
     ensures quiet { asks_zero policy data_sec.now size ≡ false
         → (resolver.new ≡ resolver.old) × (result ≡ is_fillable policy data_sec.now) }
     ensures asks { asks_zero policy data_sec.now size ≡ true
-        → Asks F.step BtfFeature.DataSecZero resolver.old (not result) resolver.new }
+        → AsksResolver F.step BtfFeature.DataSecZero resolver.old (not result) resolver.new }
 {
     let is_kept = match policy {
         FillPolicy::KeepSized => data_sec.size() != 0,
@@ -267,7 +255,7 @@ fn with_symbol_offsets<H: BuildHasher>(
     ensures answer { (p : Pass) → p.table ≡ btf.now → p.layout.symbols ≡ offsets_of symbols.now
         → IsOrNoMemory (λ new. record_of (unwrap_or new (BtfType.DataSec data_sec.now))) result
         (checked (first_fault (flat_map (entry_checks p) (entries data_sec.now.tail)))
-        (model.data_sec name_offset size (vlen data_sec.now.info)
+        (model.made_data_sec name_offset size (vlen data_sec.now.info)
         (map (placed p) (entries data_sec.now.tail)))) }
     ensures fallback { IfOk result (λ new. fallback_of
         (unwrap_or new (BtfType.DataSec data_sec.now)) ≡ None) }

@@ -5,15 +5,15 @@ ghost use Rattle.std.specs.List.{flat_map};
 ghost use Rattle.btf_model.specs.Record.{vlen};
 ghost use Rattle.btf_rewrite_model.specs.declared.feature.BtfFeature.TheVariants as features;
 ghost use Rattle.btf_rewrite_model.specs.Made as model;
-ghost use Rattle.btf_rewrite_model.specs.Made.{byte_int, union, fallback_of};
+ghost use Rattle.btf_rewrite_model.specs.Made.{byte_int, union, enum64_fallback};
 ghost use Rattle.btf_rewrite_model.specs.Checks.{first_fault};
 ghost use Rattle.btf_rewrite_model.specs.Pass.{has, member_type_text};
 ghost use Rattle.btf_rewrite_model.specs.Rule.{variant_members};
 ghost use Rattle.btf_rewrite_model.specs.Fault.{member_type_has_room};
 ghost use Rattle.btf_plain.specs.Error.{IsOrNoMemory};
-ghost use Rattle.btf_plain.specs.Fallback.{variant_of};
+ghost use Rattle.btf_plain.specs.Fallback.{fallback_variant};
 ghost use Rattle.btf_plain.specs.Items.{enum64_words, member_words};
-ghost use Rattle.btf_table.specs.Adding.{strings_end, next_id, HasRoom, Adds};
+ghost use Rattle.btf_table.specs.Adding.{next_string_offset, next_id, HasRoom, Adds};
 ghost use Rattle.btf_table.specs.Checked.{checked};
 ghost use Rattle.btf_table.specs.PassStep.{FollowsRule};
 
@@ -46,10 +46,10 @@ pub fn rewrite_enum64(made: &mut Made, btf: &Btf, enum64: &Enum64) -> Result<Btf
 pub fn append_member_type(btf: &Btf, changes: &mut Changes) -> Result<u32, BtfError>
     requires { HasRoom btf.now changes.old }
     ensures answer { IsOrNoMemory (λ id. id) result (checked (first_fault
-        (member_type_has_room (strings_end btf.now changes.old) changes.old.type_len))
+        (member_type_has_room (next_string_offset btf.now changes.old) changes.old.type_len))
         (next_id btf.now changes.old)) }
     ensures adds { OnOk result (Adds btf.now changes.old changes.new (member_type_text ∷ [])
-        (byte_int (strings_end btf.now changes.old) ∷ [])) }
+        (byte_int (next_string_offset btf.now changes.old) ∷ [])) }
 {
     let name_offset = changes.append_text(btf, MEMBER_TYPE)?;
     let int = Int::new(name_offset, 1, IntEncoding::None, 0);
@@ -64,7 +64,7 @@ fn as_union(alloc: Global, enum64: &Enum64, member_type: u32) -> Result<Union, B
           words = union enum64.now.name enum64.now.third (vlen enum64.now.info)
               (variant_members member_type (model.variants enum64.now.tail));
           fallback = Some
-              (fallback_of enum64.now);
+              (enum64_fallback enum64.now);
         })) }
 {
     let members = variant_members(alloc, enum64.variants(), member_type)?;
@@ -101,7 +101,7 @@ fn kept_variants(
     alloc: Global,
     variants: &[BtfEnum64],
 ) -> Result<Vec<Enum64VariantFallback>, AllocError>
-    ensures { IfOk result (λ v. map variant_of v.items ≡ model.variants
+    ensures { IfOk result (λ v. map fallback_variant v.items ≡ model.variants
         (flat_map enum64_words variants.now)) }
 {
     let mut kept = Vec::with_capacity(alloc, variants.len())?;

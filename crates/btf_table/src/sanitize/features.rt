@@ -9,7 +9,7 @@ ghost use Rattle.btf_rewrite_model.specs.Pass.{asks_below};
 ghost use Rattle.btf_rewrite_model.specs.Passing.{AreAnswersTo};
 ghost use Rattle.btf_records.specs.BtfType.{record_of, type_kind};
 ghost use Rattle.btf_table.specs.Btf.{IsType};
-ghost use Rattle.btf_table.specs.Features.{Asks, Called, IsFurther};
+ghost use Rattle.btf_table.specs.Features.{AsksResolver, CallsFurther, IsFurther};
 ghost use Rattle.btf_table.specs.PassStep.{Given, pass_on, AsksUpTo};
 ghost use Rattle.btf_table.specs.SoleFeature.{asks_one, feature_of, IsGranted};
 
@@ -56,7 +56,7 @@ impl<F: FnMut(BtfFeature) -> bool> BtfFeatureResolver<F> {
     /// Whether the kernel has a feature. The predicate is called for the first such question, and its answer is cached.
     pub fn is_supported(&mut self, feature: BtfFeature) -> bool
         requires { F.IsAlwaysCallable self.old.predicate }
-        ensures asks { Asks F.step feature self.old result self.new }
+        ensures asks { AsksResolver F.step feature self.old result self.new }
         ensures callable { F.IsAlwaysCallable self.new.predicate }
     {
         if let Some(granted) = answer_to(&self.answers, feature) {
@@ -105,8 +105,7 @@ pub fn has_sole_feature<F: FnMut(BtfFeature) -> bool>(
 ) -> bool
     requires { F.IsAlwaysCallable resolver.old.predicate }
     ensures callable { F.IsAlwaysCallable resolver.new.predicate }
-    ensures called { (first : F) → Called F.step first resolver.old.answers resolver.old.predicate
-        → Called F.step first resolver.new.answers resolver.new.predicate }
+    ensures called { CallsFurther F.step resolver.old resolver.new }
     ensures further { IsFurther resolver.old.answers resolver.new.answers }
     ensures asks { (t : Table) (given : Given) (id : ℕ) → IsType t id btf_type.now
         → asks_one (kind_of (record_of btf_type.now).info) ≡ true

@@ -7,7 +7,7 @@ ghost use Rattle.btf_rewrite_model.specs.Pass.{asks_below};
 ghost use Rattle.btf_rewrite_model.specs.Passing.{AreAnswersTo};
 ghost use Rattle.btf_plain.specs.Error.{MeetsOrNoMemory};
 ghost use Rattle.btf_table.specs.Builtins.{begins_builtin};
-ghost use Rattle.btf_table.specs.Features.{Called, IsFurther};
+ghost use Rattle.btf_table.specs.Features.{CallsFurther, IsFurther};
 ghost use Rattle.btf_table.specs.Btf.{IsType};
 ghost use Rattle.btf_table.specs.PassStep.{Given, pass_on, Comes, AsksUpTo, Steps, made_of};
 ghost use Rattle.btf_table.specs.Readable.{IsReadableEnd};
@@ -35,8 +35,7 @@ pub fn rewrite_func<F: FnMut(BtfFeature) -> bool>(
     requires callable { F.IsAlwaysCallable resolver.old.predicate }
     requires readable { IsReadableEnd btf.now.strings readable_end }
     ensures callable { F.IsAlwaysCallable resolver.new.predicate }
-    ensures called { (first : F) → Called F.step first resolver.old.answers resolver.old.predicate
-        → Called F.step first resolver.new.answers resolver.new.predicate }
+    ensures called { CallsFurther F.step resolver.old resolver.new }
     ensures further { IsFurther resolver.old.answers resolver.new.answers }
     ensures asks { (given : Given) (id : ℕ) → IsType btf.now id (BtfType.Func func.now)
         → AreAnswersTo (asks_below (pass_on btf.now given resolver.old.answers) id)

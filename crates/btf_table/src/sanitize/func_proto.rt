@@ -4,7 +4,7 @@ ghost use Rattle.std.specs.Prelude.{◌≡◌, if◌then◌else◌, [], string_b
 ghost use Rattle.std.specs.List.{list_any};
 ghost use Rattle.std.specs.Option.{unwrap_or};
 ghost use Rattle.btf_rewrite_model.specs.declared.feature.BtfFeature.TheVariants as features;
-ghost use Rattle.btf_rewrite_model.specs.Ksyms.{named};
+ghost use Rattle.btf_rewrite_model.specs.Ksyms.{named_parameters};
 ghost use Rattle.btf_rewrite_model.specs.Made.{wants_name};
 ghost use Rattle.btf_rewrite_model.specs.Checks.{first_fault, have_room};
 ghost use Rattle.btf_rewrite_model.specs.Pass as model;
@@ -12,7 +12,7 @@ ghost use Rattle.btf_rewrite_model.specs.Pass.{has, param_texts};
 ghost use Rattle.btf_rewrite_model.specs.Rule.{named_params};
 ghost use Rattle.btf_plain.specs.Error.{IsOrNoMemory};
 ghost use Rattle.btf_plain.specs.Items.{param_words};
-ghost use Rattle.btf_table.specs.Adding.{strings_end, HasRoom, Adds};
+ghost use Rattle.btf_table.specs.Adding.{next_string_offset, HasRoom, Adds};
 ghost use Rattle.btf_table.specs.Checked.{checked};
 ghost use Rattle.btf_table.specs.Params.{lack_a_name};
 ghost use Rattle.btf_table.specs.PassStep.{FollowsRule};
@@ -77,11 +77,11 @@ fn with_param_names(
 ) -> Result<FuncProto, BtfError>
     requires { HasRoom btf.now changes.old }
     ensures answer { IsOrNoMemory (λ r. r) result
-        (checked (first_fault (have_room (strings_end btf.now changes.old)
+        (checked (first_fault (have_room (next_string_offset btf.now changes.old)
         (param_texts 0 proto.now.tail)))
         (record proto.now {
           tail = named_params 0
-              (strings_end btf.now changes.old) proto.now.tail;
+              (next_string_offset btf.now changes.old) proto.now.tail;
         })) }
     ensures adds { OnOk result (Adds btf.now changes.old changes.new
         (param_texts 0 proto.now.tail) []) }
@@ -104,9 +104,10 @@ fn param_name_offset(
 ) -> Result<u32, BtfError>
     requires { HasRoom btf.now changes.old }
     ensures answer { IsOrNoMemory (λ offset. offset) result
-        (checked (first_fault (have_room (strings_end btf.now changes.old)
+        (checked (first_fault (have_room (next_string_offset btf.now changes.old)
         (param_texts index (param_words param.now))))
-        (if wants_name param.now.name_offset param.now.btf_type then strings_end btf.now changes.old
+        (if wants_name param.now.name_offset param.now.btf_type then next_string_offset btf.now
+        changes.old
         else param.now.name_offset)) }
     ensures adds { OnOk result (Adds btf.now changes.old changes.new
         (param_texts index (param_words param.now)) []) }
@@ -129,7 +130,7 @@ fn param_text(alloc: Global, index: usize) -> Result<String, AllocError>
 /// The prototype, with a name for each parameter that has a type and no name.
 pub fn with_names(proto: &FuncProto, name_offset: u32) -> Result<FuncProto, BtfError>
     ensures { IsOrNoMemory (λ r. r) result
-        (Ok (record proto.now { tail = named name_offset proto.now.tail })) }
+        (Ok (record proto.now { tail = named_parameters name_offset proto.now.tail })) }
 {
     let mut with_names = proto.try_clone()?;
     for (index, param) in proto.params().iter().enumerate() {

@@ -10,7 +10,7 @@ ghost use Rattle.btf_rewrite_model.specs.Ksyms.{placeholder_checks, data_sec_che
 ghost use Rattle.btf_plain.specs.Error.{IsOrNoMemory, MeetsOrNoMemory};
 ghost use Rattle.btf_records.specs.BtfType.{record_of, fallback_of};
 ghost use Rattle.btf_table.specs.Checked.{checked};
-ghost use Rattle.btf_table.specs.KsymsStep.{target_of, prototype_of, laid_out_anew, FindsSymbols, StepsWith, ksyms_ids, MakesKsyms};
+ghost use Rattle.btf_table.specs.KsymsStep.{symbol_target, prototype_of, laid_out_anew, FindsSymbols, StepsWith, ksyms_ids, MakesKsyms};
 ghost use Rattle.btf_table.specs.Readable.{IsReadableEnd};
 
 use crate::sanitize::func::global;
@@ -56,12 +56,12 @@ struct Symbols {
 
 impl Symbols {
     ghost use Rattle.std.specs.Prelude.{◌≡◌, ◌==◌, true, false, cond, OnOk};
-    ghost use Rattle.btf_table.specs.KsymsStep.{has, is_this};
+    ghost use Rattle.btf_table.specs.KsymsStep.{has_id, is_this};
 
     /// Empty sets.
     fn new(alloc: Global) -> Symbols
-        ensures ids { (q : _) → has result.ids q ≡ false }
-        ensures prototypes { (q : _) → has result.prototypes q ≡ false }
+        ensures ids { (q : _) → has_id result.ids q ≡ false }
+        ensures prototypes { (q : _) → has_id result.prototypes q ≡ false }
     {
         Symbols {
             ids: BTreeSet::new(alloc),
@@ -72,10 +72,10 @@ impl Symbols {
     /// Adds an id, and its prototype if it is a function.
     fn add(&mut self, id: u32, prototype: Option<u32>) -> Result<(), AllocError>
         ensures ids { OnOk result ((q : _)
-            → has self.new.ids q ≡ cond (id == q) true (has self.old.ids q)) }
+            → has_id self.new.ids q ≡ cond (id == q) true (has_id self.old.ids q)) }
         ensures prototypes { OnOk result
-            ((q : _) → has self.new.prototypes q ≡ cond (is_this prototype q) true
-            (has self.old.prototypes q)) }
+            ((q : _) → has_id self.new.prototypes q ≡ cond (is_this prototype q) true
+            (has_id self.old.prototypes q)) }
     {
         self.ids.insert(id)?;
         if let Some(prototype) = prototype {
@@ -110,7 +110,7 @@ pub fn int_of_4(types: &[BtfType]) -> usize
 /// What symbols become without a placeholder.
 fn find_int(btf: &Btf) -> Result<Target, BtfError>
     ensures { IsOrNoMemory (λ t. t) result
-        (checked (first_fault (placeholder_checks btf.now None)) (target_of btf.now None)) }
+        (checked (first_fault (placeholder_checks btf.now None)) (symbol_target btf.now None)) }
 {
     let types = btf.as_slice();
     let id = int_of_4(types);
@@ -130,7 +130,7 @@ fn find_int(btf: &Btf) -> Result<Target, BtfError>
 fn find_target(btf: &Btf, placeholder_id: Option<u32>) -> Result<Target, BtfError>
     ensures { IsOrNoMemory (λ t. t) result
         (checked (first_fault (placeholder_checks btf.now placeholder_id))
-        (target_of btf.now placeholder_id)) }
+        (symbol_target btf.now placeholder_id)) }
 {
     let Some(id) = placeholder_id else {
         return find_int(btf);
@@ -229,7 +229,7 @@ impl Target {
 
     /// The new type of an entry that has this type: the placeholder, if there is one, replaces a FUNC.
     fn entry_type(&self, btf: &Btf, type_id: u32) -> u32
-        ensures { (placeholder : Option ℕ) → self.now ≡ target_of btf.now placeholder
+        ensures { (placeholder : Option ℕ) → self.now ≡ symbol_target btf.now placeholder
             → result ≡ entry_type btf.now placeholder type_id }
     {
         let Some(placeholder) = self.placeholder else {
@@ -246,7 +246,8 @@ impl Target {
 
     /// What the prototype of a function among the symbols becomes; None if it is unchanged.
     fn new_proto(&self, proto: &FuncProto) -> Result<Option<BtfType>, BtfError>
-        ensures words { (t : Table) (placeholder : Option ℕ) → self.now ≡ target_of t placeholder
+        ensures words { (t : Table) (placeholder : Option ℕ) → self.now ≡ symbol_target t
+            placeholder
             → IsOrNoMemory (λ new. record_of (unwrap_or new (BtfType.FuncProto proto.now))) result
             (Ok (record proto.now { tail = model.with_names t placeholder proto.now.tail })) }
         ensures like { IfOk result (λ new. IfSome new (IsLike (BtfType.FuncProto proto.now))) }
@@ -260,9 +261,9 @@ impl Target {
 
     /// The DATASEC, with 4 bytes for each entry, one after the other.
     fn laid_out(&self, btf: &Btf, data_sec: &DataSec) -> Result<DataSec, BtfError>
-        ensures like { (placeholder : Option ℕ) → self.now ≡ target_of btf.now placeholder
+        ensures like { (placeholder : Option ℕ) → self.now ≡ symbol_target btf.now placeholder
             → IfOk result (λ s. IsLike (BtfType.DataSec data_sec.now) (BtfType.DataSec s)) }
-        ensures words { (placeholder : Option ℕ) → self.now ≡ target_of btf.now placeholder
+        ensures words { (placeholder : Option ℕ) → self.now ≡ symbol_target btf.now placeholder
             → IsOrNoMemory (λ s. s) result (Ok (laid_out_anew btf.now placeholder data_sec.now)) }
     {
         let mut laid_out = data_sec.try_clone()?;
@@ -291,7 +292,7 @@ impl Step {
     ghost use Rattle.std.specs.Prelude.{IfSome, Some, slice_get};
     ghost use Rattle.std.specs.Option.{unwrap_or};
     ghost use Rattle.btf_rewrite_model.specs.declared.ksyms_ids.KsymsIds.{KsymsIds};
-    ghost use Rattle.btf_table.specs.KsymsStep.{IsStep, becomes, IsLike, StepsAll};
+    ghost use Rattle.btf_table.specs.KsymsStep.{IsStep, step_record, IsLike, StepsAll};
 
     /// The step over a table, or why it is refused.
     fn new(btf: &Btf, datasec_id: u32, placeholder_id: Option<u32>) -> Result<Step, BtfError>
@@ -314,7 +315,7 @@ impl Step {
         requires { slice_get btf.now.records id ≡ Some (record_of btf_type.now) }
         ensures words { (ids : KsymsIds) → IsStep btf.now ids self.now
             → IsOrNoMemory (λ new. record_of (unwrap_or new btf_type.now)) result
-            (Ok (becomes btf.now ids id (record_of btf_type.now))) }
+            (Ok (step_record btf.now ids id (record_of btf_type.now))) }
         ensures like { (ids : KsymsIds) → IsStep btf.now ids self.now
             → IfOk result (λ new. IfSome new (IsLike btf_type.now)) }
     {

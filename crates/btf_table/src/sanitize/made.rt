@@ -7,7 +7,7 @@ ghost use Rattle.btf_rewrite_model.specs.Pass.{member_type_text, filler_type_tex
 ghost use Rattle.btf_model.specs.Table.{type_bytes};
 ghost use Rattle.btf_plain.specs.Error.{IsOrNoMemory};
 ghost use Rattle.btf_records.specs.BtfType.{record_of};
-ghost use Rattle.btf_table.specs.Adding.{strings_end, next_id, HasRoom, Adds};
+ghost use Rattle.btf_table.specs.Adding.{next_string_offset, next_id, HasRoom, Adds};
 ghost use Rattle.btf_table.specs.Checked.{checked};
 ghost use Rattle.btf_rewrite_model.specs.Fault.{filler_has_room, member_type_has_room};
 
@@ -66,11 +66,11 @@ impl Made {
             × (self.new ≡ self.old) }
         ensures answer { self.old.member_type ≡ None
             → IsOrNoMemory (λ id. id) result (checked (first_fault
-            (member_type_has_room (strings_end btf.now self.old.changes)
+            (member_type_has_room (next_string_offset btf.now self.old.changes)
             self.old.changes.type_len)) (next_id btf.now self.old.changes)) }
         ensures adds { self.old.member_type ≡ None
             → OnOk result (Adds btf.now self.old.changes self.new.changes (member_type_text ∷ [])
-            (byte_int (strings_end btf.now self.old.changes) ∷ [])) }
+            (byte_int (next_string_offset btf.now self.old.changes) ∷ [])) }
         ensures made { self.old.member_type ≡ None
             → OnOk result (self.new.member_type ≡ Some (next_id btf.now self.old.changes)) }
         ensures names { self.new.names ≡ self.old.names }
@@ -92,12 +92,14 @@ impl Made {
             × (self.new ≡ self.old) }
         ensures answer { self.old.filler ≡ None
             → IsOrNoMemory (λ id. id) result (checked (first_fault
-            (filler_has_room (strings_end btf.now self.old.changes) self.old.changes.type_len))
+            (filler_has_room (next_string_offset btf.now self.old.changes)
+            self.old.changes.type_len))
             (next_id btf.now self.old.changes + 1)) }
         ensures adds { self.old.filler ≡ None
             → OnOk result (Adds btf.now self.old.changes self.new.changes
             (filler_type_text ∷ filler_text ∷ [])
-            (filler (strings_end btf.now self.old.changes) (next_id btf.now self.old.changes))) }
+            (filler (next_string_offset btf.now self.old.changes)
+            (next_id btf.now self.old.changes))) }
         ensures made { self.old.filler ≡ None
             → OnOk result (self.new.filler ≡ Some (next_id btf.now self.old.changes + 1)) }
         ensures names { self.new.names ≡ self.old.names }

@@ -2,7 +2,7 @@
 
 ghost use Rattle.std.specs.Prelude.{◌≡◌};
 ghost use Rattle.std.specs.Result.{result_map_both};
-ghost use Rattle.btf_table.specs.PassStep.{outcome_of};
+ghost use Rattle.btf_table.specs.PassStep.{rule_outcome};
 
 use btf_plain::BtfError;
 use btf_records::BtfType;
@@ -20,7 +20,7 @@ pub enum Outcome {
 
 /// The outcome of a rule that replaces the type, or leaves it unchanged if there is None.
 pub fn placed(made: Result<Option<BtfType>, BtfError>) -> Result<Outcome, BtfError>
-    ensures { result ≡ result_map_both outcome_of (λ e. e) made }
+    ensures { result ≡ result_map_both rule_outcome (λ e. e) made }
 {
     match made {
         Ok(Some(new_type)) => Ok(Outcome::Other(new_type)),

@@ -9,10 +9,10 @@ ghost use Rattle.btf_rewrite_model.specs.Passing.{AreAnswersTo};
 ghost use Rattle.btf_plain.specs.Error.{MeetsOrNoMemory};
 ghost use Rattle.btf_records.specs.BtfType.{record_of};
 ghost use Rattle.btf_table.specs.Adding.{HasRoom};
-ghost use Rattle.btf_table.specs.Features.{Called, IsFurther};
+ghost use Rattle.btf_table.specs.Features.{Called, CallsFurther, IsFurther};
 ghost use Rattle.btf_table.specs.Layout.{layout_of};
 ghost use Rattle.btf_table.specs.Btf.{IsType};
-ghost use Rattle.btf_table.specs.PassStep.{Given, pass_on, under, Comes, AsksUpTo, Steps, Passes, BeginsAsked, made_of};
+ghost use Rattle.btf_table.specs.PassStep.{Given, pass_on, given_by, Comes, AsksUpTo, AsksInPass, StepsInPass, Passes, BeginsAsked, made_of};
 ghost use Rattle.btf_table.specs.SoleFeature.{asks_one, feature_of, IsGranted};
 ghost use Rattle.btf_table.specs.ReadNames.{AreRead};
 
@@ -48,23 +48,13 @@ fn rewrite_type<F: FnMut(BtfFeature) -> bool, G: BuildHasher, H: BuildHasher>(
         (layout_of request.now.sections.now request.now.symbols.now) names.old }
     requires callable { F.IsAlwaysCallable resolver.old.predicate }
     ensures callable { F.IsAlwaysCallable resolver.new.predicate }
-    ensures called { (first : F) → Called F.step first resolver.old.answers resolver.old.predicate
-        → Called F.step first resolver.new.answers resolver.new.predicate }
+    ensures called { CallsFurther F.step resolver.old resolver.new }
     ensures further { IsFurther resolver.old.answers resolver.new.answers }
-    ensures asks { (given : Given) (id : ℕ)
-        → given ≡ under request.now.policy
-        (layout_of request.now.sections.now request.now.symbols.now)
-        → Comes btf.now given id btf_type.now resolver.old.answers resolver.new.answers made.old
-        → (left : List BtfFeature)
-        × AsksUpTo (pass_on btf.now given resolver.old.answers) id
-        resolver.new.answers left }
-    ensures steps { (given : Given) (id : ℕ)
-        → given ≡ under request.now.policy
-        (layout_of request.now.sections.now request.now.symbols.now)
-        → Comes btf.now given id btf_type.now resolver.old.answers resolver.new.answers made.old
-        → MeetsOrNoMemory (λ o. made_of o btf_type.now) result
-        (Steps (pass_on btf.now given resolver.old.answers) id resolver.new.answers
-        btf_type.now made.old made.new) }
+    ensures asks { AsksInPass btf.now (given_by request.now) btf_type.now
+        resolver.old.answers resolver.new.answers made.old }
+    ensures steps { StepsInPass btf.now (given_by request.now) btf_type.now
+        resolver.old.answers resolver.new.answers made.old made.new
+        (λ o. made_of o btf_type.now) result }
     ensures read { OnOk result
         (AreRead btf.now.strings
         (layout_of request.now.sections.now request.now.symbols.now) names.new) }
@@ -101,13 +91,9 @@ pub fn pass_changes<F: FnMut(BtfFeature) -> bool, G: BuildHasher, H: BuildHasher
     ensures callable { F.IsAlwaysCallable resolver.new.predicate }
     ensures called { Called F.step resolver.old.predicate resolver.new.answers
         resolver.new.predicate }
-    ensures asks { BeginsAsked (pass_on btf.now (under request.now.policy
-        (layout_of request.now.sections.now request.now.symbols.now))
-        resolver.new.answers) }
+    ensures asks { BeginsAsked (pass_on btf.now (given_by request.now) resolver.new.answers) }
     ensures passes { MeetsOrNoMemory (λ c. c) result
-        (Passes (pass_on btf.now (under request.now.policy
-        (layout_of request.now.sections.now request.now.symbols.now))
-        resolver.new.answers)) }
+        (Passes (pass_on btf.now (given_by request.now) resolver.new.answers)) }
 {
     let count = btf.as_slice().len();
     let mut made = Made::new(btf)?;

@@ -2,8 +2,8 @@
 
 ghost use Rattle.std.specs.Prelude.{◌≡◌, length, OnOk, OnErr, IfOk, IfErr};
 ghost use Rattle.btf_model.specs.Table.{Table};
-ghost use Rattle.btf_table.specs.Denied.{AreDenied, AreIds, with_denied};
-ghost use Rattle.btf_table.specs.Changes.{put_all, put_back, replaced, changed, AreInside, AreOf, Undoes};
+ghost use Rattle.btf_table.specs.Denied.{AreDenied, AreTypeIds, with_denied};
+ghost use Rattle.btf_table.specs.Changes.{put_all, put_back, before_changes, changed, AreInside, AreChangesOf, Undoes};
 
 use crate::sanitize::deny;
 use crate::table::Btf;
@@ -33,7 +33,7 @@ impl Changes {
     ghost use Rattle.std.specs.Prelude.{None};
     ghost use Rattle.btf_rewrite_model.specs.Checks.{has_room, fits, record_len};
     ghost use Rattle.btf_plain.specs.Error.{IsOrNoMemory};
-    ghost use Rattle.btf_table.specs.Adding.{strings_end, next_id, HasRoom, Adds};
+    ghost use Rattle.btf_table.specs.Adding.{next_string_offset, next_id, HasRoom, Adds};
     ghost use Rattle.btf_table.specs.Checked.{checked};
 
     /// No changes of a table.
@@ -58,8 +58,8 @@ impl Changes {
     pub fn append_text(&mut self, btf: &Btf, text: &str) -> Result<u32, BtfError>
         requires { HasRoom btf.now self.old }
         ensures answer { IsOrNoMemory (λ offset. offset) result
-            (checked (has_room (strings_end btf.now self.old) text.now)
-            (strings_end btf.now self.old)) }
+            (checked (has_room (next_string_offset btf.now self.old) text.now)
+            (next_string_offset btf.now self.old)) }
         ensures adds { OnOk result (Adds btf.now self.old self.new (text.now ∷ []) []) }
     {
         let offset = btf.string_len() + self.new_strings.len();
@@ -128,7 +128,7 @@ pub struct Undo {
 fn swap_types(types: &mut [BtfType], changed: &mut [(u32, BtfType)])
     requires { AreInside (length types.old) changed.old }
     ensures put { types.new ≡ put_all changed.old types.old }
-    ensures old { changed.new ≡ replaced changed.old types.old }
+    ensures old { changed.new ≡ before_changes changed.old types.old }
 {
     for at in 0..changed.len() {
         let id = changed[at].0 as usize;
@@ -150,7 +150,7 @@ fn put_back_types(types: &mut [BtfType], old: &mut [(u32, BtfType)])
 
 /// Changes the types of these ids in place, as `deny` does.
 fn deny_each(alloc: Global, types: &mut [BtfType], ids: &[u32])
-    requires { AreIds (length types.old) ids.now }
+    requires { AreTypeIds (length types.old) ids.now }
     ensures { AreDenied ids.now types.old types.new }
 {
     for at in 0..ids.len() {
@@ -163,7 +163,7 @@ impl Btf {
     /// Applies changes to their table, and returns what is needed to revert them. `OutOfMemory` is the only error, and
     /// leaves the table unchanged.
     pub(crate) fn apply(&mut self, mut changes: Changes) -> Result<Undo, BtfError>
-        requires { AreOf self.old changes }
+        requires { AreChangesOf self.old changes }
         ensures memory { IfErr result (λ e. e ≡ BtfError.OutOfMemory) }
         ensures ok { OnOk result (self.new ≡ changed self.old changes) }
         ensures undo { IfOk result (λ undo. Undoes undo self.new self.old) }
@@ -199,7 +199,7 @@ impl Btf {
 
     /// Changes the types of these ids in place, as `deny` does. Allocates no memory.
     pub(crate) fn deny_types(&mut self, ids: &[u32])
-        requires { AreIds (length self.old.records) ids.now }
+        requires { AreTypeIds (length self.old.records) ids.now }
         ensures { self.new ≡ with_denied ids.now self.old }
     {
         let alloc = self.allocator();

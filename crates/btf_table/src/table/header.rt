@@ -2,7 +2,7 @@
 
 ghost use Rattle.std.specs.Prelude.{◌≡◌, ◌+◌, ◌<◌, ◌≤◌, ◌++◌, length, MatchResult, MatchOption, OnOk};
 ghost use Rattle.btf_model.specs.Blob.{header_len, header_of, header_bytes, slice};
-ghost use Rattle.btf_table.specs.Header.{header};
+ghost use Rattle.btf_table.specs.Header.{model_header};
 
 use btf_plain::{BtfError, Endianness};
 use std::alloc::AllocError;
@@ -40,7 +40,7 @@ impl Header {
     pub fn read(data: &[u8], endianness: Endianness) -> Result<Header, BtfError>
         ensures { MatchResult result
             (λ h. (header_len ≤ length «data».now)
-            × (header h ≡ header_of endianness «data».now))
+            × (model_header h ≡ header_of endianness «data».now))
             (λ e. (length «data».now < header_len) × (e ≡ BtfError.InvalidHeader)) }
     {
         let Some(bytes) = data.first_chunk::<24>() else {
@@ -64,7 +64,7 @@ impl Header {
     /// Appends the header to bytes.
     pub fn append_to(&self, out: &mut Vec<u8>, endianness: Endianness) -> Result<(), AllocError>
         ensures { OnOk result (out.new.items ≡ out.old.items
-            ++ header_bytes endianness (header self.now)) }
+            ++ header_bytes endianness (model_header self.now)) }
     {
         out.extend_from_slice(&endianness.write_u16(self.magic))?;
         out.extend_from_slice(&[self.version, self.flags])?;

@@ -12,7 +12,7 @@ use btf_plain::{BtfError, BtfKind, Endianness, Head};
 use btf_records::{BtfType, without_fallback};
 use std::alloc::{AllocError, Global};
 
-/// The number of types for which a copy has room beside its own: a rewrite seldom appends more.
+/// The number of types for which a parsed table or a copy has room beside its own: a rewrite seldom appends more.
 const SPARE: usize = 4;
 
 /// The types of a type section, by id; the type of id 0 is first.
@@ -27,7 +27,7 @@ pub fn read_types(
     ensures { MeetsOrNoMemory (λ v. v.items) result (ReadsTypes endianness «data».now) }
 {
     // Counted first, because a vector that grows ends with room for up to twice its records.
-    let mut types = Vec::with_capacity(alloc, 1 + count_records(data, endianness))?;
+    let mut types = Vec::with_capacity(alloc, 1 + count_records(data, endianness) + SPARE)?;
     types.push(BtfType::Unknown)?;
     let mut rest = data;
     while !rest.is_empty() {

@@ -5,7 +5,7 @@ use Rattle.std.proofs.lemmas.Str.{utf8_lossy_chunk, utf8_lossy_last_chunk, utf8_
 use Rattle.std.specs.Str.Chunks.{utf8_chunks_rest}
 use Rattle.std.specs.Str.Lossy.{utf8_lossy, replacement_bytes}
 use Rattle.bstr.proofs.lemmas.LossyLemmas.{lossy_chars-utf8_lossy}
-use Rattle.btf_cli.specs.Buffered.{Takes, HasRoom}
+use Rattle.btf_cli.specs.Buffered.{Takes, HasBufferRoom}
 use Rattle.btf_cli.proofs.Taken.{takes_both, room_next, added, text_begins}
 use Rattle.btf_cli.proofs.listing.write_lossy.Goals as goal
 
@@ -65,7 +65,7 @@ pub returns-in_err-put-clause-room : goal.returns-in_err-put-clause-room
 returns-in_err-put-clause-room g c = λ fits.
     let steps = c.in-Some.ensures.steps in
     let (done, taken, read, kept) = c.loop-chunk.invariant in
-    let room = subst (HasRoom c.args.lines.now) (lossy_chars-utf8_lossy c.args.bytes.now) fits in
+    let room = subst (HasBufferRoom c.args.lines.now) (lossy_chars-utf8_lossy c.args.bytes.now) fits in
     let (more, text) = text_begins _ _ _ _ steps.0 steps.3.0 steps.3.1 steps.2 in
     let parts : done ++ (c.valid.result.now ++ more) ≡ utf8_lossy c.args.bytes.now = ap (λ (xs : List ℕ). done ++ (xs ++ more)) c.valid.ensures ∙ ap (λ (xs : List ℕ). done ++ xs) text ∙ read in
     let put = c.in_err-put.ensures.room (room_next c.args.lines.now.pending.bytes c.loop-chunk.lines.pending.bytes (utf8_lossy c.args.bytes.now) done c.valid.result.now more room (kept room) parts) in
@@ -77,7 +77,7 @@ returns-in_err-put-2-clause-room g c = λ fits.
     let (done, taken, read, kept) = c.loop-chunk.invariant in
     let valid = c.valid.result.now in
     let left = utf8_lossy (utf8_chunks_rest c.next.new.self) in
-    let room = subst (HasRoom c.args.lines.now) (lossy_chars-utf8_lossy c.args.bytes.now) fits in
+    let room = subst (HasBufferRoom c.args.lines.now) (lossy_chars-utf8_lossy c.args.bytes.now) fits in
     let some : 0 < length c.in-Some.chunk.invalid.now = search rules in
     let text = utf8_lossy_chunk _ _ _ _ steps.0 steps.3.0 steps.3.1 some in
     let parts : done ++ (valid ++ (replacement_bytes ++ left)) ≡ utf8_lossy c.args.bytes.now =

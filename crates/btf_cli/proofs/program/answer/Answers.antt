@@ -4,15 +4,15 @@ use Rattle.btf_plain.specs.Error.{refusal_of}
 use Rattle.btf_cli.specs.declared.line.Line.{Line}
 use Rattle.btf_cli.specs.declared.line.Command.TheVariants.{Rewrite}
 use Rattle.btf_cli.specs.Answer.{IsAnswer, IsDeclined}
-use Rattle.btf_cli.proofs.Outcomes.{answered_not_declined, declined_fails, query_made, query_told, same_told, line_of}
+use Rattle.btf_cli.proofs.Outcomes.{answered_not_declined, declined_fails, query_made, query_of_words, same_asked, line_of}
 use Rattle.btf_cli.proofs.program.answer.Goals as goal
 
 pub returns-in_ok-table-in-Ask-clause-refused : goal.returns-in_ok-table-in-Ask-clause-refused
 returns-in_ok-table-in-Ask-clause-refused c =
     declined_fails c.args.line c.args.blob.now c.asked.result (query_made c.args.line c.args.blob.now c.in-Ask.query c.in_ok-table-in-Ask.table c.asked.result c.in-Ask.is c.in_ok-table-in-Ask.ensures.parsed c.asked.ensures.made)
 
-pub returns-in_ok-table-in-Ask-clause-told : goal.returns-in_ok-table-in-Ask-clause-told
-returns-in_ok-table-in-Ask-clause-told c = query_told c.args.line c.args.blob.now c.in-Ask.query c.in_ok-table-in-Ask.table c.asked.result c.in-Ask.is c.in_ok-table-in-Ask.ensures.parsed c.asked.ensures.told
+pub returns-in_ok-table-in-Ask-clause-reported : goal.returns-in_ok-table-in-Ask-clause-reported
+returns-in_ok-table-in-Ask-clause-reported c = query_of_words c.args.line c.args.blob.now c.in-Ask.query c.in_ok-table-in-Ask.table c.asked.result c.in-Ask.is c.in_ok-table-in-Ask.ensures.parsed c.asked.ensures.reported
 
 pub returns-in_ok-bytes-in-Rewrite-clause-refused : goal.returns-in_ok-bytes-in-Rewrite-clause-refused
 returns-in_ok-bytes-in-Rewrite-clause-refused c = λ f declined.
@@ -20,8 +20,8 @@ returns-in_ok-bytes-in-Rewrite-clause-refused c = λ f declined.
     let made = subst (λ (line : Line). IsAnswer line c.args.blob.now written) (sym (line_of c.args.line (Rewrite c.in-Rewrite.request) c.in-Rewrite.is)) c.in_ok-bytes-in-Rewrite.ensures.made in
     absurd (answered_not_declined c.args.line c.args.blob.now written f made declined)
 
-pub returns-in_err-bytes-in-Rewrite-clause-told : goal.returns-in_err-bytes-in-Rewrite-clause-told
-returns-in_err-bytes-in-Rewrite-clause-told c =
+pub returns-in_err-bytes-in-Rewrite-clause-reported : goal.returns-in_err-bytes-in-Rewrite-clause-reported
+returns-in_err-bytes-in-Rewrite-clause-reported c =
     let e = c.in_err-bytes-in-Rewrite.field-0.0 in
-    let told = subst (λ (line : Line). IfSome (refusal_of e) (IsDeclined line c.args.blob.now)) (sym (line_of c.args.line (Rewrite c.in-Rewrite.request) c.in-Rewrite.is)) c.in_err-bytes-in-Rewrite.ensures.told in
-    same_told c.args.line c.args.blob.now e c.from_residual-in_err-bytes-in-Rewrite.result told c.from_residual-in_err-bytes-in-Rewrite.ensures.1
+    let setting_asked = subst (λ (line : Line). IfSome (refusal_of e) (IsDeclined line c.args.blob.now)) (sym (line_of c.args.line (Rewrite c.in-Rewrite.request) c.in-Rewrite.is)) c.in_err-bytes-in-Rewrite.ensures.reported in
+    same_asked c.args.line c.args.blob.now e c.from_residual-in_err-bytes-in-Rewrite.result setting_asked c.from_residual-in_err-bytes-in-Rewrite.ensures.1

@@ -2,7 +2,7 @@ use Rattle.std.proofs.Common.{◌≡◌, ap, rules, ◌∙◌}
 use Rattle.btf_table.specs.Features.{Resolver}
 use Rattle.btf_table.specs.Layout.{layout_of}
 use Rattle.btf_cli.proofs.Kernel.{AreNamed, all_named, kernel_agrees, policy_is}
-use Rattle.btf_cli.proofs.Rewritings.{layout_is, IsFor, rewritten_answer, rewritten_declined, told_through}
+use Rattle.btf_cli.proofs.Rewritings.{layout_is, IsFor, rewritten_answer, rewritten_declined, refusal_through}
 use Rattle.btf_cli.proofs.rewrite.rewritten.Goals as goal
 use Rattle.btf_cli.proofs.rewrite.rewritten.Goals.{After-rewrite_bytes_with}
 
@@ -24,9 +24,9 @@ returns-clause-made c =
     rewritten_answer c.args.request (layout_of c.in_ok-sections.sections c.in_ok-symbols.symbols) c.policy.result c.rewrite_bytes_with.new.resolver.answers c.requires.0 (for_request (goal.at.returns-clause-made c).After-rewrite_bytes_with) c.args.endianness
     c.args.blob.now c.in_ok-bytes.bytes.items c.in_ok-bytes.field-0-1.items c.in_ok-bytes.ensures.rewrites
 
-pub returns-in_err-bytes-clause-told : goal.returns-in_err-bytes-clause-told
-returns-in_err-bytes-clause-told c =
-    told_through _ _ c.in_err-bytes.field-0.0 c.from_residual-in_err-bytes.result
-    (rewritten_declined c.args.request (layout_of c.in_ok-sections.sections c.in_ok-symbols.symbols) c.policy.result c.rewrite_bytes_with.new.resolver.answers c.requires.0 (for_request (goal.at.returns-in_err-bytes-clause-told c).After-rewrite_bytes_with)
+pub returns-in_err-bytes-clause-reported : goal.returns-in_err-bytes-clause-reported
+returns-in_err-bytes-clause-reported c =
+    refusal_through _ _ c.in_err-bytes.field-0.0 c.from_residual-in_err-bytes.result
+    (rewritten_declined c.args.request (layout_of c.in_ok-sections.sections c.in_ok-symbols.symbols) c.policy.result c.rewrite_bytes_with.new.resolver.answers c.requires.0 (for_request (goal.at.returns-in_err-bytes-clause-reported c).After-rewrite_bytes_with)
     c.args.endianness c.args.blob.now)
     c.in_err-bytes.ensures.rewrites c.from_residual-in_err-bytes.ensures.1

@@ -7,7 +7,7 @@ use Rattle.btf_compare.specs.declared.frame.Frame.{Frame}
 use Rattle.btf_compare.specs.declared.frame.Place.{Place}
 use Rattle.btf_compare.specs.declared.frame.Place.TheVariants.{Ends, Pending}
 use Rattle.btf_compare.specs.declared.entries.Progress.{Progress}
-use Rattle.btf_compare.specs.PairMap.{known, count, Learns}
+use Rattle.btf_compare.specs.PairMap.{known_progress, count, Learns}
 use Rattle.btf_compare.specs.Compared.{HasStarted, NextParameterIs, frame_of, passed_in, pending_of, is_progress_open, is_progress_compatible, opened_in, compatible_in, progress_of}
 use Rattle.btf_compare.specs.Pairs.{pair_of}
 use Rattle.btf_compare.proofs.Comparing as runs_of
@@ -73,7 +73,7 @@ returns-in_default g c =
     )
 
 pub mark_compatible-requires : goal.mark_compatible-requires
-mark_compatible-requires g c = known_if_open (known c.steps.run.seen c.steps.top.pair) (c.steps.invariant.0.has_all (pair_of c.steps.top.pair) (inl refl))
+mark_compatible-requires g c = known_if_open (known_progress c.steps.run.seen c.steps.top.pair) (c.steps.invariant.0.has_all (pair_of c.steps.top.pair) (inl refl))
 
 next_runs : (g : Over) (c : After-walk g) → Running c.args.local.now c.args.target.now (pair_of c.args.first.pair) c.mark_compatible.new.self.seen c.mark_compatible.new.self.below.items c.in-Some.next (reported g c.args.first.pair c.args.starts.now c.steps.starts)
 next_runs g c =
@@ -185,7 +185,7 @@ pub returns-in_err-is_known_compatible : goal.returns-in_err-is_known_compatible
 returns-in_err-is_known_compatible g c =
     first_reported g c.args.local.now c.args.target.now c.args.first.pair _ c.args.starts.now _
     (
-    let it = open_if c.in-Some-2.pair.0 (known c.steps.run.seen c.in-Some-2.pair) c.in_err-is_known_compatible.field-0.0 (sym c.in_err-is_known_compatible.ensures) in
+    let it = open_if c.in-Some-2.pair.0 (known_progress c.steps.run.seen c.in-Some-2.pair) c.in_err-is_known_compatible.field-0.0 (sym c.in_err-is_known_compatible.ensures) in
     subst (λ (r : Result Bool BtfError). Compares c.args.local.now c.args.target.now (pair_of c.args.first.pair) r (reported g c.args.first.pair c.args.starts.now c.steps.starts))
     (sym (propagated c.from_residual-in_err-is_known_compatible.result c.in_err-is_known_compatible.field-0.0 c.from_residual-in_err-is_known_compatible.ensures.1 ∙ ap (λ (e : BtfError). Err e) it.1))
     (is_open c.args.local.now c.args.target.now (pair_of c.args.first.pair) (opened_in c.steps.run.seen) (compatible_in c.steps.run.seen) (frame_of c.steps.top) (stack_of c.steps.run.below.items) (count c.steps.run.seen) (reported g c.args.first.pair c.args.starts.now c.steps.starts) c.steps.invariant.0
@@ -201,13 +201,13 @@ steps-smaller-then-branch g c =
 pub steps-preserved-then-branch : goal.steps-preserved-then-branch
 steps-preserved-then-branch g c = (
   compares_all c.args.local.now c.args.target.now (pair_of c.args.first.pair) (opened_in c.steps.run.seen) (compatible_in c.steps.run.seen) (frame_of c.steps.top) (stack_of c.steps.run.below.items) (count c.steps.run.seen) (reported g c.args.first.pair c.args.starts.now c.steps.starts) c.steps.invariant.0
-      (pair_of c.in-Some-2.pair) (frame_of c.next_parameter.new.self) (waits_for c.args.local.now c.args.target.now c.steps.top c.next_parameter.new.self c.in-Pending.found c.in_ok-pair.field-0 c.in-Some-2.pair c.in-Some-2.is c.in_ok-pair.ensures.next) (compatible_if c.in-Some-2.pair.0 (known c.steps.run.seen c.in-Some-2.pair) (sym c.in_ok-is_known_compatible.ensures ∙ ap (λ (b : Bool). Ok b) c.if-branch.true)),
+      (pair_of c.in-Some-2.pair) (frame_of c.next_parameter.new.self) (waits_for c.args.local.now c.args.target.now c.steps.top c.next_parameter.new.self c.in-Pending.found c.in_ok-pair.field-0 c.in-Some-2.pair c.in-Some-2.is c.in_ok-pair.ensures.next) (compatible_if c.in-Some-2.pair.0 (known_progress c.steps.run.seen c.in-Some-2.pair) (sym c.in_ok-is_known_compatible.ensures ∙ ap (λ (b : Bool). Ok b) c.if-branch.true)),
   c.steps.invariant.1,
   still_pending c.args.local.now c.args.target.now c.next_parameter.new.self c.steps.place c.in-Pending.found c.in-Pending.is c.next_parameter.ensures.here,
 )
 
 pub start-requires : goal.start-requires
-start-requires g c = unknown_if c.in-Some-2.pair.0 (known c.steps.run.seen c.in-Some-2.pair) (sym c.in_ok-is_known_compatible.ensures ∙ ap (λ (b : Bool). Ok b) c.if-branch.false)
+start-requires g c = unknown_if c.in-Some-2.pair.0 (known_progress c.steps.run.seen c.in-Some-2.pair) (sym c.in_ok-is_known_compatible.ensures ∙ ap (λ (b : Bool). Ok b) c.if-branch.false)
 
 -- the walk of a started pair
 above : (g : Over) (c : After-branch-end g) (end : Result Place BtfError) → Walked c.args.local.now c.args.target.now (passed_in c.steps.run.passed) (pair_of c.in-Some-2.pair) c.start.new.frame end → ReportsOneMore (reported g c.args.first.pair c.args.starts.now c.steps.starts) (reported g c.args.first.pair c.args.starts.now c.start.new.starts) c.in-Some-2.pair
@@ -216,7 +216,7 @@ above g c end w tells = record {
   state = c.steps.invariant.0;
   are = c.steps.invariant.1;
   next = waits_for c.args.local.now c.args.target.now c.steps.top c.next_parameter.new.self c.in-Pending.found c.in_ok-pair.field-0 c.in-Some-2.pair c.in-Some-2.is c.in_ok-pair.ensures.next;
-  unknown = unknown_if c.in-Some-2.pair.0 (known c.steps.run.seen c.in-Some-2.pair) (sym c.in_ok-is_known_compatible.ensures ∙ ap (λ (b : Bool). Ok b) c.if-branch.false);
+  unknown = unknown_if c.in-Some-2.pair.0 (known_progress c.steps.run.seen c.in-Some-2.pair) (sym c.in_ok-is_known_compatible.ensures ∙ ap (λ (b : Bool). Ok b) c.if-branch.false);
   begins = w.0;
   tells = tells;
   new = refl;
@@ -235,7 +235,7 @@ returns-in_err-end g c =
       | inl refused ↦
           reported_on c.args.local.now c.args.target.now (pair_of c.args.first.pair) result (reported g c.args.first.pair c.args.starts.now c.steps.starts) (reported g c.args.first.pair c.args.starts.now c.start.new.starts) (λ ids h before began. refused.1 before ids (h before began))
           (is_refused c.args.local.now c.args.target.now (pair_of c.args.first.pair) (opened_in c.steps.run.seen) (compatible_in c.steps.run.seen) (frame_of c.steps.top) (stack_of c.steps.run.below.items) (count c.steps.run.seen) (reported g c.args.first.pair c.args.starts.now c.steps.starts) c.steps.invariant.0
-          (pair_of c.in-Some-2.pair) (frame_of c.next_parameter.new.self) (waits_for c.args.local.now c.args.target.now c.steps.top c.next_parameter.new.self c.in-Pending.found c.in_ok-pair.field-0 c.in-Some-2.pair c.in-Some-2.is c.in_ok-pair.ensures.next) (ap is_progress_open (unknown_if c.in-Some-2.pair.0 (known c.steps.run.seen c.in-Some-2.pair) (sym c.in_ok-is_known_compatible.ensures ∙ ap (λ (b : Bool). Ok b) c.if-branch.false))) (ap is_progress_compatible (unknown_if c.in-Some-2.pair.0 (known c.steps.run.seen c.in-Some-2.pair) (sym c.in_ok-is_known_compatible.ensures ∙ ap (λ (b : Bool). Ok b) c.if-branch.false))) c.allocator_of.ensures c.requires.kinds
+          (pair_of c.in-Some-2.pair) (frame_of c.next_parameter.new.self) (waits_for c.args.local.now c.args.target.now c.steps.top c.next_parameter.new.self c.in-Pending.found c.in_ok-pair.field-0 c.in-Some-2.pair c.in-Some-2.is c.in_ok-pair.ensures.next) (ap is_progress_open (unknown_if c.in-Some-2.pair.0 (known_progress c.steps.run.seen c.in-Some-2.pair) (sym c.in_ok-is_known_compatible.ensures ∙ ap (λ (b : Bool). Ok b) c.if-branch.false))) (ap is_progress_compatible (unknown_if c.in-Some-2.pair.0 (known_progress c.steps.run.seen c.in-Some-2.pair) (sym c.in_ok-is_known_compatible.ensures ∙ ap (λ (b : Bool). Ok b) c.if-branch.false))) c.allocator_of.ensures c.requires.kinds
           c.in_err-end.field-0.0 result refused.0 is)
       | inr walked ↦
           let w = walked_unless_false c.args.local.now c.args.target.now (passed_in c.steps.run.passed) (pair_of c.in-Some-2.pair) c.start.new.frame (Err c.in_err-end.field-0.0) refl walked.0 in
@@ -258,7 +258,7 @@ returns-in-Ends-false-end g c =
     (elim (subst (λ (p : Place). HasStarted c.args.local.now c.args.target.now (passed_in c.steps.run.passed) (pair_of c.in-Some-2.pair) c.start.new.frame (Ok p)) is h.0) [
       | inl kinds ↦
           differs c.args.local.now c.args.target.now (pair_of c.args.first.pair) (opened_in c.steps.run.seen) (compatible_in c.steps.run.seen) (frame_of c.steps.top) (stack_of c.steps.run.below.items) (count c.steps.run.seen) (reported g c.args.first.pair c.args.starts.now c.steps.starts) c.steps.invariant.0
-          (pair_of c.in-Some-2.pair) (frame_of c.next_parameter.new.self) (waits_for c.args.local.now c.args.target.now c.steps.top c.next_parameter.new.self c.in-Pending.found c.in_ok-pair.field-0 c.in-Some-2.pair c.in-Some-2.is c.in_ok-pair.ensures.next) (ap is_progress_open (unknown_if c.in-Some-2.pair.0 (known c.steps.run.seen c.in-Some-2.pair) (sym c.in_ok-is_known_compatible.ensures ∙ ap (λ (b : Bool). Ok b) c.if-branch.false))) (ap is_progress_compatible (unknown_if c.in-Some-2.pair.0 (known c.steps.run.seen c.in-Some-2.pair) (sym c.in_ok-is_known_compatible.ensures ∙ ap (λ (b : Bool). Ok b) c.if-branch.false))) (reported g c.args.first.pair c.args.starts.now c.start.new.starts)
+          (pair_of c.in-Some-2.pair) (frame_of c.next_parameter.new.self) (waits_for c.args.local.now c.args.target.now c.steps.top c.next_parameter.new.self c.in-Pending.found c.in_ok-pair.field-0 c.in-Some-2.pair c.in-Some-2.is c.in_ok-pair.ensures.next) (ap is_progress_open (unknown_if c.in-Some-2.pair.0 (known_progress c.steps.run.seen c.in-Some-2.pair) (sym c.in_ok-is_known_compatible.ensures ∙ ap (λ (b : Bool). Ok b) c.if-branch.false))) (ap is_progress_compatible (unknown_if c.in-Some-2.pair.0 (known_progress c.steps.run.seen c.in-Some-2.pair) (sym c.in_ok-is_known_compatible.ensures ∙ ap (λ (b : Bool). Ok b) c.if-branch.false))) (reported g c.args.first.pair c.args.starts.now c.start.new.starts)
           kinds.0 (λ ids reported before began. h.3 before ids (reported before began))
       | inr w ↦ inner_false (above g s (Ok (Ends false)) w (λ ids reported before began. h.3 before ids (reported before began))) w.2
     ])

@@ -2,14 +2,14 @@ use Rattle.std.proofs.Common.{◌≡◌, ◌≤◌, ◌<◌, ℕ, List, length, 
 use Rattle.std.specs.Prelude.{position}
 use Rattle.std.specs.List.{before_first}
 use Rattle.std.proofs.lemmas.List.{length-take-le}
-use Rattle.btf_elf_model.specs.Section.{is_zero, name_at}
+use Rattle.btf_elf_model.specs.Section.{ends_name, name_at}
 use Rattle.btf_elf.proofs.ShortNames.{zero_in_front, all_of_it, long_name}
 use Rattle.btf_elf.proofs.strings.short_name.Goals as goal
 use Rattle.btf_elf.proofs.strings.short_name.Goals.{In-Some}
 
 -- the first zero byte of the front
-zero_at : (c : In-Some) → position is_zero (take c.args.limit c.tail-rest.result.now) ≡ Some c.in-Some.len
-zero_at c = ap (position is_zero) (sym c.front.ensures) ∙ sym c.first_zero.ensures ∙ c.in-Some.is
+zero_at : (c : In-Some) → position ends_name (take c.args.limit c.tail-rest.result.now) ≡ Some c.in-Some.len
+zero_at c = ap (position ends_name) (sym c.front.ensures) ∙ sym c.first_zero.ensures ∙ c.in-Some.is
 
 pub slice_bounds-result-end : goal.slice_bounds-result-end
 slice_bounds-result-end c =
@@ -22,20 +22,20 @@ returns-in-Some-clause-some c =
     let zero = zero_in_front c.args.limit rest c.in-Some.len (zero_at (goal.at.returns-in-Some-clause-some c).In-Some) in
     let len : length (take c.in-Some.len rest) ≡ c.in-Some.len = length-take-le c.in-Some.len rest zero.0 in
     let short : c.in-Some.len < c.args.limit = zero.1 in
-    (sym zero.2 ∙ ap (before_first is_zero) c.tail-rest.ensures ∙ ap (λ (n : ℕ). name_at c.args.strings.now n) c.from.ensures, omega (arith, len, short))
+    (sym zero.2 ∙ ap (before_first ends_name) c.tail-rest.ensures ∙ ap (λ (n : ℕ). name_at c.args.strings.now n) c.from.ensures, omega (arith, len, short))
 
 pub returns-in-None-clause-some : goal.returns-in-None-clause-some
 unfolding name_at
 returns-in-None-clause-some c =
     let rest = c.tail-rest.result.now in
-    let none : position is_zero (take c.args.limit rest) ≡ None = ap (position is_zero) (sym c.front.ensures) ∙ sym c.first_zero.ensures ∙ c.in-None.is in
+    let none : position ends_name (take c.args.limit rest) ≡ None = ap (position ends_name) (sym c.front.ensures) ∙ sym c.first_zero.ensures ∙ c.in-None.is in
     let short : length rest < c.args.limit = c.if-rest-limit.true in
-    (sym (all_of_it c.args.limit rest none short) ∙ ap (before_first is_zero) c.tail-rest.ensures ∙ ap (λ (n : ℕ). name_at c.args.strings.now n) c.from.ensures, short)
+    (sym (all_of_it c.args.limit rest none short) ∙ ap (before_first ends_name) c.tail-rest.ensures ∙ ap (λ (n : ℕ). name_at c.args.strings.now n) c.from.ensures, short)
 
 pub returns-in-None-2-clause-none : goal.returns-in-None-2-clause-none
 unfolding name_at
 returns-in-None-2-clause-none c =
     let rest = c.tail-rest.result.now in
-    let none : position is_zero (take c.args.limit rest) ≡ None = ap (position is_zero) (sym c.front.ensures) ∙ sym c.first_zero.ensures ∙ c.in-None-2.is in
+    let none : position ends_name (take c.args.limit rest) ≡ None = ap (position ends_name) (sym c.front.ensures) ∙ sym c.first_zero.ensures ∙ c.in-None-2.is in
     let long : c.args.limit ≤ length rest = c.if-rest-limit.false in
-    subst (λ (n : ℕ). c.args.limit ≤ length (name_at c.args.strings.now n)) c.from.ensures (subst (λ (r : List ℕ). c.args.limit ≤ length (before_first is_zero r)) c.tail-rest.ensures (long_name c.args.limit rest none long))
+    subst (λ (n : ℕ). c.args.limit ≤ length (name_at c.args.strings.now n)) c.from.ensures (subst (λ (r : List ℕ). c.args.limit ≤ length (before_first ends_name r)) c.tail-rest.ensures (long_name c.args.limit rest none long))

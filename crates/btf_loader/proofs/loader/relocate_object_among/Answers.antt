@@ -5,7 +5,7 @@ use Rattle.btf_ext.specs.Relocation.{relocation}
 use Rattle.btf_relocate.specs.Modules.{targets_view}
 use Rattle.btf_relocate.specs.Sections.{is_shared}
 use Rattle.btf_loader_model.specs.Refused.{IsReasonAmong, sections_reason}
-use Rattle.btf_loader.specs.Errors.{of_table, IsReport, IsCause}
+use Rattle.btf_loader.specs.Errors.{of_table, IsReport, IsLoaderCause}
 use Rattle.btf_loader.specs.Results.{outcomes_of, refuses_errors, setting}
 use Rattle.btf_loader.proofs.Causes.{becomes, has_table, are_sections, table_cause, ext_cause, section_cause, accepted}
 use Rattle.btf_loader.proofs.Objects.{is_relocated}
@@ -29,7 +29,7 @@ returns-in_err-local-clause-cause g c =
 
 pub returns-in-Err-clause-cause : goal.returns-in-Err-clause-cause
 returns-in-Err-clause-cause g c =
-    subst (IsCause (IsReasonAmong c.args.bytes.now (targets_view c.args.targets.now) (is_shared c.args.policy) (refuses_errors c.args.refusals))) (sym c.ext_error.ensures)
+    subst (IsLoaderCause (IsReasonAmong c.args.bytes.now (targets_view c.args.targets.now) (is_shared c.args.policy) (refuses_errors c.args.refusals))) (sym c.ext_error.ensures)
     (ext_cause c.args.bytes.now (targets_view c.args.targets.now) (is_shared c.args.policy) (refuses_errors c.args.refusals) c.in_ok-object.object c.header.result.now c.in_ok-local.local c.in-Some-section_named.data.now c.in-Err.error
     (has_table c.args.bytes.now c.in_ok-object.object c.header.result.now c.in-Some.table.now c.in_ok-local.local c.in_ok-object.ensures c.header.ensures c.in-Some.ensures c.in_ok-local.ensures.parsed)
     c.header.ensures c.in-Some-section_named.ensures c.in-Err.ensures)

@@ -8,7 +8,7 @@ use Rattle.btf_elf_model.specs.declared.section_header.SectionHeader.{SectionHea
 use Rattle.btf_object_model.specs.Layout.{last_named}
 use Rattle.btf_table.specs.Layout.{sizes_of}
 use Rattle.btf_plain.specs.declared.section_index.SectionIndex.{SectionIndex}
-use Rattle.btf_object.specs.Names.{indices_of}
+use Rattle.btf_object.specs.Names.{name_indices}
 use Rattle.btf_object.proofs.Named.{section_push, section_pass, section_kept, indexed, last_indexed, index_push, index_pass, index_kept}
 use Rattle.btf_object.proofs.layout.read_sections.Goals as goal
 use Rattle.btf_object.proofs.layout.read_sections.Goals.{in-Some+in_ok-to_string+in_ok-insert, in_default}
@@ -28,7 +28,7 @@ loop-index-preserved g c = λ name.
                 ∙ section_kept (bytes_eq key name) section (get_by_text c.loop-index.map name) rest (c.loop-index.invariant name).0
                 ∙ ap (λ (k : List ℕ). if bytes_eq k name then Some w.in-Some.size else rest) w.in_ok-to_string.ensures.ok
                 ∙ sym (section_push o i w.in-Some.name.now w.in-Some.size name w.in-Some.ensures.some),
-            ap (λ m. indices_of m name) w.map-is ∙ ap (λ (o : Option (SectionIndex × ℕ)). option_map (λ (t : SectionIndex × ℕ). t.0.0) o) updated
+            ap (λ m. name_indices m name) w.map-is ∙ ap (λ (o : Option (SectionIndex × ℕ)). option_map (λ (t : SectionIndex × ℕ). t.0.0) o) updated
                 ∙ index_kept (bytes_eq key name) section (get_by_text c.loop-index.map name) above (c.loop-index.invariant name).1
                 ∙ ap (λ (k : List ℕ). if bytes_eq k name then Some i else above) w.in_ok-to_string.ensures.ok
                 ∙ sym (index_push o i w.in-Some.name.now w.in-Some.size name w.in-Some.ensures.some),
@@ -36,6 +36,6 @@ loop-index-preserved g c = λ name.
       | in_default w ↦
           let lt : i < length o.sections = omega (arith, c.loop-index-test.true, ap (λ (ss : List SectionHeader). length ss) c.sections-index-end.ensures) in (
             ap (λ m. sizes_of m name) w.map-is ∙ (c.loop-index.invariant name).0 ∙ sym (section_pass o i name lt w.in_default.ensures.none),
-            ap (λ m. indices_of m name) w.map-is ∙ (c.loop-index.invariant name).1 ∙ sym (index_pass o i name lt w.in_default.ensures.none),
+            ap (λ m. name_indices m name) w.map-is ∙ (c.loop-index.invariant name).1 ∙ sym (index_pass o i name lt w.in_default.ensures.none),
           )
     ]

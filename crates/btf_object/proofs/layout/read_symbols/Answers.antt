@@ -6,7 +6,7 @@ use Rattle.std.specs.Str.{bytes_eq}
 use Rattle.std.proofs.lemmas.Map.Text.{hash_map_updates_text}
 use Rattle.btf_elf_model.specs.Object.{symbols, symbol_name}
 use Rattle.btf_elf_model.specs.declared.symbol.Symbol.{Symbol}
-use Rattle.btf_object_model.specs.Layout.{last_named, is_read}
+use Rattle.btf_object_model.specs.Layout.{last_named, is_read_symbol}
 use Rattle.btf_table.specs.Layout.{offsets_of}
 use Rattle.btf_object.proofs.Named.{symbol_push, symbol_pass, symbol_kept}
 use Rattle.btf_object.proofs.layout.read_symbols.Goals as goal
@@ -17,7 +17,7 @@ loop-index-preserved g c = λ name.
     let i : ℕ = c.loop-index.index in
     let o = c.args.object.now in
     let value = λ (t : Symbol). t.value in
-    let rest : Option ℕ = last_named (symbol_name o) value (filter is_read (take i (symbols o))) name in
+    let rest : Option ℕ = last_named (symbol_name o) value (filter is_read_symbol (take i (symbols o))) name in
     elim c.match-read_symbol.branch [
       | in-Some+in_ok-to_string+in_ok-insert w ↦
           let key : List ℕ = string_bytes w.in_ok-to_string.field-0 in

@@ -5,7 +5,7 @@ use Rattle.btf_elf_model.specs.Object as elf
 use Rattle.btf_elf_model.specs.declared.section_header.SectionHeader.{SectionHeader}
 use Rattle.btf_object_model.specs.Laws.{KeepsExt}
 use Rattle.btf_object_model.specs.Sanitized.{HasSection, IsSanitized, ext_name}
-use Rattle.btf_object.specs.Errors.{target_of, IsCause}
+use Rattle.btf_object.specs.Errors.{target_of, IsSanitizeCause}
 use Rattle.btf_object.proofs.Objects.{of_bytes}
 use Rattle.btf_object.proofs.sanitize.sanitize_object_with.Goals as goal
 
@@ -21,5 +21,5 @@ returns-clause-ext g c =
 
 pub returns-clause-refused : goal.returns-clause-refused
 returns-clause-refused g c =
-    of_bytes (λ (b : List ℕ). IfErr c.sanitize_parsed.result (IsCause b (target_of c.args.kernel.now c.args.policy (option_map (λ (name : Bor (List ℕ)). name.now) c.args.placeholder)))) c.args.bytes.now c.in_ok-object.object c.in_ok-object.ensures
+    of_bytes (λ (b : List ℕ). IfErr c.sanitize_parsed.result (IsSanitizeCause b (target_of c.args.kernel.now c.args.policy (option_map (λ (name : Bor (List ℕ)). name.now) c.args.placeholder)))) c.args.bytes.now c.in_ok-object.object c.in_ok-object.ensures
     c.sanitize_parsed.ensures.refused

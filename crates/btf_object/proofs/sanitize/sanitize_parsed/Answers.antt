@@ -3,7 +3,7 @@ use Rattle.std.specs.Option.{option_map}
 use Rattle.btf_elf.specs.Writing.{HasReplaced}
 use Rattle.btf_object_model.specs.Sanitized.{IsSanitized}
 use Rattle.btf_object_model.proofs.Kept.{keeps_ext}
-use Rattle.btf_object.specs.Errors.{target_of, of_table, of_section, RefusesFor, RewritesFor}
+use Rattle.btf_object.specs.Errors.{target_of, from_table, of_section, RefusesFor, RewritesFor}
 use Rattle.btf_object.proofs.Objects.{becomes, whole, table_cause, section_cause, sanitized}
 use Rattle.btf_object.proofs.sanitize.sanitize_parsed.Given.{Over}
 use Rattle.btf_object.proofs.sanitize.sanitize_parsed.Goals as goal
@@ -11,7 +11,7 @@ use Rattle.btf_object.proofs.sanitize.sanitize_parsed.Goals.{In_ok-file}
 
 pub returns-in_err-written-clause-refused : goal.returns-in_err-written-clause-refused
 returns-in_err-written-clause-refused g c =
-    becomes _ (of_table c.in_err-written.field-0.0) c.from_residual.result
+    becomes _ (from_table c.in_err-written.field-0.0) c.from_residual.result
     (table_cause c.args.object.now.bytes c.args.object.now c.in-Some.index c.in-Some.table.now (whole c.args.object.now c.bytes.result.now c.bytes.ensures.value c.bytes.ensures.object) c.in-Some.ensures.some
     (RefusesFor (target_of c.args.kernel.now c.args.policy (option_map (λ (name : Bor (List ℕ)). name.now) c.args.placeholder))) (RewritesFor (target_of c.args.kernel.now c.args.policy (option_map (λ (name : Bor (List ℕ)). name.now) c.args.placeholder)))
     c.in_err-written.field-0.0 c.in_err-written.ensures.refused)

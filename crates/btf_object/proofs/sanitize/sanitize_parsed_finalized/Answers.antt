@@ -2,7 +2,7 @@ use Rattle.std.proofs.Common.{List, ℕ, subst}
 use Rattle.btf_elf.specs.Writing.{HasReplaced}
 use Rattle.btf_object_model.specs.SanitizedFinalized.{IsSanitizedFinalized}
 use Rattle.btf_object_model.proofs.Kept.{finalized_keeps_ext}
-use Rattle.btf_object.specs.Errors.{of_table, of_section, RefusesFinalizedFor, RewritesFinalizedFor}
+use Rattle.btf_object.specs.Errors.{from_table, of_section, RefusesFinalizedFor, RewritesFinalizedFor}
 use Rattle.btf_object.specs.Kernel.{kernel_has}
 use Rattle.btf_object.proofs.Objects.{becomes, whole, table_cause, section_cause, sanitized_finalized}
 use Rattle.btf_object.proofs.sanitize.sanitize_parsed_finalized.Given.{Over}
@@ -11,7 +11,7 @@ use Rattle.btf_object.proofs.sanitize.sanitize_parsed_finalized.Goals.{In_ok-wit
 
 pub returns-in_err-written-clause-refused : goal.returns-in_err-written-clause-refused
 returns-in_err-written-clause-refused g c =
-    becomes _ (of_table c.in_err-written.field-0.0) c.from_residual.result
+    becomes _ (from_table c.in_err-written.field-0.0) c.from_residual.result
     (table_cause c.args.object.now.bytes c.args.object.now c.in-Some.index c.in-Some.table.now (whole c.args.object.now c.bytes.result.now c.bytes.ensures.value c.bytes.ensures.object) c.in-Some.ensures.some
     (RefusesFinalizedFor (kernel_has c.args.kernel.now)) (RewritesFinalizedFor (kernel_has c.args.kernel.now)) c.in_err-written.field-0.0 c.in_err-written.ensures.refused)
     c.from_residual.ensures.1

@@ -5,7 +5,7 @@ use Rattle.btf_model.specs.Table.{Table}
 use Rattle.btf_model.proofs.Comparisons.{same_ok}
 use Rattle.btf_elf_model.specs.declared.file_header.FileHeader.{FileHeader}
 use Rattle.btf_table.specs.Layout.{layout_of}
-use Rattle.btf_object_model.specs.Finalized.{with_ksyms_size, sized}
+use Rattle.btf_object_model.specs.Finalized.{with_ksyms_size, with_old_sizes}
 use Rattle.btf_object.specs.Kernel.{kernel_has}
 use Rattle.btf_object.proofs.Rewrites.{refuses_ksyms, refuses_placeholder, refuses_rewrite, rewrites_finalized, passed_on}
 use Rattle.btf_object.proofs.table.finalized.Given.{Over}
@@ -46,7 +46,7 @@ returns-clause-made g c =
     let base : Table = c.open.new.btf in
     let new : Table = c.rewrite_for.new.btf in
     let made : Table = c.set_sizes.new.btf in
-    let made_is : made ≡ sized (with_ksyms_size base c.in_ok-ids.ids) new =
+    let made_is : made ≡ with_old_sizes (with_ksyms_size base c.in_ok-ids.ids) new =
     c.in_ok-set_sizes.ensures.made (with_ksyms_size base c.in_ok-ids.ids) (c.deref.ensures.value ∙ c.in_ok-sizes.ensures) in
     let bytes_are : c.in_ok-to_bytes.field-0.items ≡ canon made = same_ok {E = Refusal} c.in_ok-to_bytes.field-0.items (canon made) c.in_ok-to_bytes.ensures.written in
     let all =

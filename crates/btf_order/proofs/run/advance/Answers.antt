@@ -3,7 +3,7 @@ use Rattle.btf_records.specs.BtfType.{record_of}
 use Rattle.btf_order.specs.declared.progress.Progress.{Progress}
 use Rattle.btf_order.specs.declared.progress.Visit.{Visit}
 use Rattle.btf_order.specs.declared.progress.Visit.TheVariants.{Returns}
-use Rattle.btf_order.specs.Frame.{IsFrame}
+use Rattle.btf_order.specs.Frame.{IsWalkFrame}
 use Rattle.btf_order.specs.Progress.{VisitIs}
 use Rattle.btf_order.specs.Shape.{ChildIs}
 use Rattle.btf_order.proofs.Covers.{frame_after, frame_more, types_here}
@@ -16,7 +16,7 @@ loop-node-preserved c =
     record {
       same = visit.0 ∙ c.loop-node.invariant.same;
       frame =
-          subst (λ (p : Progress). IsFrame c.args.table.now.records p.ids.items c.after.result) (sym visit.0)
+          subst (λ (p : Progress). IsWalkFrame c.args.table.now.records p.ids.items c.after.result) (sym visit.0)
           (frame_after c.args.table.now.records c.loop-node.progress.ids.items c.loop-node.top c.after.result c.in-Some.node c.in-Returns.link c.loop-node.invariant.frame
           (subst (λ (ts : List ℕ). ChildIs ts c.loop-node.top.node.through_pointer c.loop-node.top.next (Some c.in-Some.node))
           (types_here c.args.table.now.records c.loop-node.top c.args.top.now (record_of c.in_ok-btf_type.btf_type.now) c.loop-node.invariant.node c.in_ok-btf_type.ensures.record_is) c.in-Some.ensures)

@@ -3,7 +3,7 @@ use Rattle.btf_order.specs.declared.run.Step.{Step}
 use Rattle.btf_order.specs.declared.run.Step.TheVariants.{Down}
 use Rattle.btf_order.specs.declared.shape.Node.{Node}
 use Rattle.btf_order.specs.Frame.{LinkIs}
-use Rattle.btf_order.specs.Run.{StepIs}
+use Rattle.btf_order.specs.Run.{WalkStepIs}
 use Rattle.btf_order.proofs.Covers.{new_frame, frame_after}
 use Rattle.btf_order.proofs.Knowing.{grows_trans}
 use Rattle.btf_order.proofs.Stacks.{Waiting, down_waiting, up_waiting, down_bottom, up_bottom}
@@ -11,8 +11,8 @@ use Rattle.btf_order.proofs.run.run.Goals as goal
 
 pub steps-preserved-in-Down : goal.steps-preserved-in-Down
 steps-preserved-in-Down c =
-    let step : StepIs c.args.table.now.records c.steps.progress c.advance.new.progress c.advance.new.top (Down c.in-Down.node) =
-    subst (λ (s : Step). StepIs c.args.table.now.records c.steps.progress c.advance.new.progress c.advance.new.top s) c.in-Down.is c.in_ok-node-2.ensures.step in
+    let step : WalkStepIs c.args.table.now.records c.steps.progress c.advance.new.progress c.advance.new.top (Down c.in-Down.node) =
+    subst (λ (s : Step). WalkStepIs c.args.table.now.records c.steps.progress c.advance.new.progress c.advance.new.top s) c.in-Down.is c.in_ok-node-2.ensures.step in
     record {
       knows = c.in_ok-node-2.ensures.knows;
       grows = grows_trans c.args.progress.now c.steps.progress c.advance.new.progress c.steps.invariant.grows c.in_ok-node-2.ensures.grows;

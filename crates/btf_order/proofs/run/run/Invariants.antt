@@ -1,14 +1,14 @@
 use Rattle.std.proofs.Common.{◌≡◌, ◌+◌, false, length}
-use Rattle.btf_order.specs.Frame.{IsFrame}
-use Rattle.btf_order.specs.Progress.{Knows, Grows, left_over}
+use Rattle.btf_order.specs.Frame.{IsWalkFrame}
+use Rattle.btf_order.specs.Progress.{KnowsOrder, Grows, left_over}
 use Rattle.btf_order.proofs.Stacks.{Waiting, first}
 use Rattle.btf_order.proofs.run.run.Given as goal
 
 abbrev pub invariant-steps : goal.invariant-steps
 invariant-steps l = record {
-  knows : Knows l.table.records l.progress;
+  knows : KnowsOrder l.table.records l.progress;
   grows : Grows l.fn.progress l.progress;
-  frame : IsFrame l.table.records l.progress.ids.items l.top;
+  frame : IsWalkFrame l.table.records l.progress.ids.items l.top;
   waiting : Waiting l.table.records l.progress.ids.items l.below.items l.top.node;
   bottom : first l.below.items l.top.node ≡ record { id = l.root; through_pointer = false };
 }

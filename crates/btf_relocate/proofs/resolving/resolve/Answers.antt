@@ -4,7 +4,7 @@ use Rattle.std.specs.Global.{Vec}
 use Rattle.btf_model.specs.Table.{Table}
 use Rattle.btf_model.specs.declared.endianness.Endianness.{Endianness}
 use Rattle.btf_relocate_model.specs.Resolution as model
-use Rattle.btf_relocate_model.specs.Resolution.{Setting, Question, question, answers, candidate_answer, resolution, resolved_by, remaining, is_local}
+use Rattle.btf_relocate_model.specs.Resolution.{TablePair, Question, question, answers, candidate_answer, resolution, resolved_by, remaining, is_local}
 use Rattle.btf_relocate_model.specs.declared.answer.Answer.{Answer}
 use Rattle.btf_relocate_model.specs.declared.error.RelocationError.TheVariants.{OutOfMemory}
 use Rattle.btf_relocate_model.specs.declared.resolved.Resolved.{Resolved}
@@ -15,7 +15,7 @@ use Rattle.btf_relocate.proofs.resolving.resolve.Goals.{then-is_some, else-is_so
 
 pub returns-in_err-answer : goal.returns-in_err-answer
 returns-in_err-answer c =
-    let g : Setting = record { local = c.args.local.now; target = c.args.target.now } in
+    let g : TablePair = record { local = c.args.local.now; target = c.args.target.now } in
     let words = c.args.record.now in
     let q : Question = question_view c.in_ok-question.question in
     let e = c.in_err-answer.field-0.0 in
@@ -37,7 +37,7 @@ returns-in_err-answer c =
 
 pub returns : goal.returns
 returns c =
-    let g : Setting = record { local = c.args.local.now; target = c.args.target.now } in
+    let g : TablePair = record { local = c.args.local.now; target = c.args.target.now } in
     let words = c.args.record.now in
     let q : Question = question_view c.in_ok-question.question in
     let order : c.endianness.result ≡ c.args.target.now.order = c.endianness.ensures ∙ ap (λ (t : Table). t.order) c.table.ensures in

@@ -4,7 +4,7 @@ use Rattle.std.specs.BTreeMap.{BTreeMap}
 use Rattle.btf_records.specs.BtfType.{record_of}
 use Rattle.btf_relocate.specs.declared.search.Found.{Found}
 use Rattle.btf_relocate.specs.Members.{member_of}
-use Rattle.btf_relocate.specs.Searching.{among, within, from_id, size_of, Remembers}
+use Rattle.btf_relocate.specs.Searching.{among, within, from_id, levels_of, Remembers}
 use Rattle.btf_relocate.proofs.Searches.{remember, empty_slice, full_slice, begins, found_here, after_nothing, at_other}
 use Rattle.btf_plain.specs.declared.items.BtfMember.{BtfMember}
 use Rattle.btf_relocate.proofs.Pointers.{element_from}
@@ -54,7 +54,7 @@ search_members-loop-index-preserved t c =
     let some : c.args.depth ≡ 0 → ⊥ = c.if-depth-eq0.false in
     elim c.if-is_empty-2.branch [
       | search_members-then-is_empty-2+in_ok-field+in-Nothing w ↦
-          let inner : w.in-Nothing.inner ≤ c.args.depth - 1 = subst (λ (f : Found). size_of f ≤ c.args.depth - 1) w.in-Nothing.is w.in_ok-field.ensures.small in
+          let inner : w.in-Nothing.inner ≤ c.args.depth - 1 = subst (λ (f : Found). levels_of f ≤ c.args.depth - 1) w.in-Nothing.is w.in_ok-field.ensures.small in
           let more : c.if-is_empty-2.levels ≡ max c.loop-index.levels (w.in-Nothing.inner + 1) = w.levels-is ∙ w.max-levels.ensures in
           record {
             same = refl;

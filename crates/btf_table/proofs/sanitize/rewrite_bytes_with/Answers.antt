@@ -3,7 +3,7 @@ use Rattle.btf_model.specs.Blob.{IsTable}
 use Rattle.btf_model.specs.Table.{Table, strip}
 use Rattle.btf_model.proofs.Comparisons.{same_ok}
 use Rattle.btf_table.specs.Layout.{layout_of}
-use Rattle.btf_table.specs.PassStep.{under}
+use Rattle.btf_table.specs.PassStep.{given_under}
 use Rattle.btf_table.specs.Rewrites.{NeedsAreGranted, KeepsTypes, OfTables}
 use Rattle.btf_table.proofs.Rewriting.{written_again, of_tables}
 use Rattle.btf_table.proofs.sanitize.rewrite_bytes_with.Given.{Over}
@@ -14,7 +14,7 @@ module _ (g : Over) (c : In_ok-to_bytes g) where
   -- the written bytes represent the new table
   written_is : IsTable c.args.endianness c.in_ok-to_bytes.field-0.items (strip c.fixup_and_sanitize_with.new.self)
   written_is =
-      written_again c.args.endianness c.args.data.now c.in_ok-to_bytes.field-0.items c.in_ok-btf.btf c.fixup_and_sanitize_with.new.self c.args.ksyms (under c.args.policy (layout_of c.args.sections.now c.args.symbols.now)) c.fixup_and_sanitize_with.new.resolver.answers
+      written_again c.args.endianness c.args.data.now c.in_ok-to_bytes.field-0.items c.in_ok-btf.btf c.fixup_and_sanitize_with.new.self c.args.ksyms (given_under c.args.policy (layout_of c.args.sections.now c.args.symbols.now)) c.fixup_and_sanitize_with.new.resolver.answers
       c.in_ok-btf.ensures.parsed c.in_ok-answers.ensures.rewrites.0 c.in_ok-to_bytes.ensures.parses_back
 
   -- a fact about both tables holds for the tables that the bytes represent

@@ -6,14 +6,14 @@ ghost use Rattle.std.specs.Option.{unwrap_or};
 ghost use Rattle.btf_model.specs.Record.{Record, vlen};
 ghost use Rattle.btf_rewrite_model.specs.Made.{entries};
 ghost use Rattle.btf_model.specs.Text.{text_at};
-ghost use Rattle.btf_rewrite_model.specs.Checks.{first_fault, is_read};
+ghost use Rattle.btf_rewrite_model.specs.Checks.{first_fault, name_is_read};
 ghost use Rattle.btf_rewrite_model.specs.Pass.{Pass, symbol_by_name};
 ghost use Rattle.btf_rewrite_model.specs.Rule.{entry_members, placed};
 ghost use Rattle.btf_rewrite_model.specs.Fault.{member_checks, entry_checks, is_placed};
 ghost use Rattle.btf_plain.specs.Error.{IsOrNoMemory};
 ghost use Rattle.btf_plain.specs.Items.{member_words};
 ghost use Rattle.btf_table.specs.Checked.{checked};
-ghost use Rattle.btf_table.specs.KsymsStep.{entry as entry_of};
+ghost use Rattle.btf_table.specs.KsymsStep.{model_entry as entry_of};
 ghost use Rattle.btf_table.specs.Layout.{offsets_of};
 ghost use Rattle.btf_table.specs.ReadNames.{AreFound};
 ghost use Rattle.btf_table.specs.Readable.{IsReadableEnd};
@@ -87,7 +87,7 @@ fn symbol_offset<H: BuildHasher>(
     requires { AreFound btf.now.strings (offsets_of symbols.now) offsets.old }
     ensures answer { (p : Pass) → p.layout.symbols ≡ offsets_of symbols.now
         → IsOrNoMemory (λ n. n) result
-        (checked (first_fault (is_read (text_at btf.now.strings name_offset)
+        (checked (first_fault (name_is_read (text_at btf.now.strings name_offset)
         ∷ is_placed (symbol_by_name p (text_at btf.now.strings name_offset))
         (text_at btf.now.strings name_offset) ∷ []))
         (unwrap_or (symbol_by_name p (text_at btf.now.strings name_offset)) 0)) }

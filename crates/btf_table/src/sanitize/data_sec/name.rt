@@ -5,11 +5,11 @@ ghost use Rattle.std.specs.BTreeMap.{get};
 ghost use Rattle.std.specs.Ordering.{nat_cmp};
 ghost use Rattle.btf_rewrite_model.specs.declared.feature.BtfFeature.TheVariants as features;
 ghost use Rattle.btf_model.specs.Text.{text_at};
-ghost use Rattle.btf_rewrite_model.specs.Checks.{first_fault, is_read, have_room};
-ghost use Rattle.btf_rewrite_model.specs.Pass.{Pass, has, renaming, replaced, slash, dot, underscore};
+ghost use Rattle.btf_rewrite_model.specs.Checks.{first_fault, name_is_read, have_room};
+ghost use Rattle.btf_rewrite_model.specs.Pass.{Pass, has, renaming, replaced, slash, dot, underscore_byte};
 ghost use Rattle.btf_rewrite_model.specs.Rule.{name_or};
 ghost use Rattle.btf_plain.specs.Error.{IsOrNoMemory};
-ghost use Rattle.btf_table.specs.Adding.{strings_end, HasRoom, Adds};
+ghost use Rattle.btf_table.specs.Adding.{next_string_offset, HasRoom, Adds};
 ghost use Rattle.btf_table.specs.Checked.{checked};
 ghost use Rattle.btf_table.specs.ReadNames.{AreUnchanged};
 
@@ -36,10 +36,10 @@ pub fn new_name(
     requires kept { AreUnchanged btf.now.strings kept.old }
     ensures answer { (p : Pass) → p.table ≡ btf.now → has p features.DataSec ≡ granted
         → IsOrNoMemory (λ o. o) result (checked
-        (first_fault (is_read (text_at btf.now.strings data_sec.now.name)
-        ∷ have_room (strings_end btf.now changes.old)
+        (first_fault (name_is_read (text_at btf.now.strings data_sec.now.name)
+        ∷ have_room (next_string_offset btf.now changes.old)
         (renaming p (text_at btf.now.strings data_sec.now.name))))
-        (name_or data_sec.now.name (strings_end btf.now changes.old)
+        (name_or data_sec.now.name (next_string_offset btf.now changes.old)
         (renaming p (text_at btf.now.strings data_sec.now.name)))) }
     ensures adds { (p : Pass) → p.table ≡ btf.now → has p features.DataSec ≡ granted
         → OnOk result (Adds btf.now changes.old changes.new
@@ -75,7 +75,7 @@ fn is_kept(kept: &BTreeMap<u32, bool>, offset: u32, granted: bool) -> bool
 /// `/` there. Otherwise the DATASEC becomes a STRUCT, and `_` replaces each `.`, because no C name has a `.`.
 fn section_name(alloc: Global, name: &str, granted: bool) -> Result<String, AllocError>
     ensures { IfOk result (λ text. string_bytes text ≡ if granted then replaced slash dot name.now
-        else replaced dot underscore name.now) }
+        else replaced dot underscore_byte name.now) }
 {
     if granted {
         name.replace(alloc, '/', ".")

@@ -1,5 +1,5 @@
 use Rattle.std.proofs.Common.{ℕ, List, [], Bool, Option, None, Some, Ok, subst, refl}
-use Rattle.btf_compare.specs.Pairs.{pair}
+use Rattle.btf_compare.specs.Pairs.{id_pair}
 use Rattle.btf_model.specs.Compat.{Plain}
 use Rattle.btf_model.specs.Fields.{Pair}
 use Rattle.btf_plain.specs.declared.kind.BtfKind.{BtfKind}
@@ -24,7 +24,7 @@ returns-then-branch c = (
   (
     Some c.in-Some-2.like,
     subst (λ (o : Option (BtfKind × ℕ)). FindsFirst c.args.target.now c.args.name.now (like_kinds c.in-Some.found.0) o) c.in-Some-2.is c.in_ok-like.ensures,
-    subst (λ (b : Bool). (listed : List Pair) × Plain c.args.local.now c.args.target.now [] (pair c.in-Some.found.1 c.in-Some-2.like.1) (Ok b) listed) c.if-branch.true c.in_ok-types_are_compatible.ensures,
+    subst (λ (b : Bool). (listed : List Pair) × Plain c.args.local.now c.args.target.now [] (id_pair c.in-Some.found.1 c.in-Some-2.like.1) (Ok b) listed) c.if-branch.true c.in_ok-types_are_compatible.ensures,
   ),
 )
 
@@ -35,6 +35,6 @@ returns-else-branch c = (
   (
     Some c.in-Some-2.like,
     subst (λ (o : Option (BtfKind × ℕ)). FindsFirst c.args.target.now c.args.name.now (like_kinds c.in-Some.found.0) o) c.in-Some-2.is c.in_ok-like.ensures,
-    subst (λ (b : Bool). (listed : List Pair) × Plain c.args.local.now c.args.target.now [] (pair c.in-Some.found.1 c.in-Some-2.like.1) (Ok b) listed) c.if-branch.false c.in_ok-types_are_compatible.ensures,
+    subst (λ (b : Bool). (listed : List Pair) × Plain c.args.local.now c.args.target.now [] (id_pair c.in-Some.found.1 c.in-Some-2.like.1) (Ok b) listed) c.if-branch.false c.in_ok-types_are_compatible.ensures,
   ),
 )

@@ -8,7 +8,7 @@ use Rattle.btf_rewrite_model.specs.Rewritten.{Rewritten, pass_of}
 use Rattle.btf_rewrite_model.proofs.Kernels.{rewritten_alike}
 use Rattle.btf_table.specs.Features.{Resolver}
 use Rattle.btf_table.specs.Layout.{layout_of}
-use Rattle.btf_table.specs.PassStep.{under}
+use Rattle.btf_table.specs.PassStep.{given_under}
 use Rattle.btf_table.specs.Rewrites.{features_asked}
 use Rattle.btf_table.proofs.Rewriting.{written_again}
 use Rattle.btf_rewrite_model.specs.FeatureSet.{answers_of}
@@ -41,5 +41,5 @@ returns c =
       rewritten = rewritten_alike target.policy c.args.table new c.in_ok-ids.ids no_layout answers (answers_of target.has) known.0 known.1 (kernel_agrees target.has answers are);
       answers_are = record { of_kernel = are; asked_for = known.1 };
       written = same_ok {E = Refusal} file (canon new) c.in_ok-to_bytes.ensures.written;
-      parses_back = written_again order bytes file c.args.table new c.in_ok-ids.ids (under target.policy layout) answers is c.in_ok-answers.ensures.rewrites.0 c.in_ok-to_bytes.ensures.parses_back;
+      parses_back = written_again order bytes file c.args.table new c.in_ok-ids.ids (given_under target.policy layout) answers is c.in_ok-answers.ensures.rewrites.0 c.in_ok-to_bytes.ensures.parses_back;
     })

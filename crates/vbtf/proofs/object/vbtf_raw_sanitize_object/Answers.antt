@@ -1,6 +1,6 @@
 use Rattle.std.proofs.Common.{refl, subst, inl, inr}
 use Rattle.btf_object_model.specs.Sanitized.{IsSanitized}
-use Rattle.btf_object.specs.Errors.{IsCause}
+use Rattle.btf_object.specs.Errors.{IsSanitizeCause}
 use Rattle.vbtf.specs.Kernel.{ListsAnswers}
 use Rattle.vbtf.specs.Status.{Fills}
 use Rattle.vbtf.proofs.Objects.{chosen, cause_is_no_success}
@@ -16,7 +16,7 @@ returns-in-Ok-sanitize_object_with-clause-sanitized c = λ utf8.
 pub returns-in-Err-clause-sanitized : goal.returns-in-Err-clause-sanitized
 returns-in-Err-clause-sanitized c = λ utf8.
     let is = chosen c.of_bits-features.result c.args.kernel.now c.policy.result _ _ c.args.placeholder.now c.of_bits-features.ensures c.policy.ensures c.named.ensures c.in-Ok.ensures.cases.0 in
-    inr (refl, (c.in-Err.error, subst (λ t. IsCause c.args.object.now t c.in-Err.error) is c.in-Err.ensures.refused, c.report_cause.ensures))
+    inr (refl, (c.in-Err.error, subst (λ t. IsSanitizeCause c.args.object.now t c.in-Err.error) is c.in-Err.ensures.refused, c.report_cause.ensures))
 
 pub returns-in-Ok-sanitize_object_with-clause-ext : goal.returns-in-Ok-sanitize_object_with-clause-ext
 returns-in-Ok-sanitize_object_with-clause-ext c = λ utf8 zero o index s has.

@@ -43,8 +43,8 @@ returns-clause-rewrites c =
     let layout = layout_of c.args.program.now.sections c.args.program.now.symbols in
     let of = of_kernel (goal.at.returns-clause-rewrites c).After-fixup_and_sanitize_with-answers in
     let for = for_kernel kernel.features c.policy-policy.result c.args.btf.now c.ksyms_ids-ids.result layout call.new.self call.new.resolver.answers call.result of call.ensures.answers call.ensures.rewrites in
-    subst (λ ids. MeetsOrNoMemory (λ a. a.items) call.result (RewritesForKernel kernel.features (policy_chosen kernel) c.args.btf.now ids layout call.new.self)) c.ksyms_ids-ids.ensures
-    (subst (λ policy. MeetsOrNoMemory (λ a. a.items) call.result (RewritesForKernel kernel.features policy c.args.btf.now c.ksyms_ids-ids.result layout call.new.self)) c.policy-policy.ensures for)
+    subst (λ ids. MeetsOrNoMemory (λ a. a.items) call.result (RewritesForKernel kernel.features (record { policy = policy_chosen kernel; ksyms = ids; layout = layout }) c.args.btf.now call.new.self)) c.ksyms_ids-ids.ensures
+    (subst (λ policy. MeetsOrNoMemory (λ a. a.items) call.result (RewritesForKernel kernel.features (record { policy = policy; ksyms = c.ksyms_ids-ids.result; layout = layout }) c.args.btf.now call.new.self)) c.policy-policy.ensures for)
 
 pub returns-clause-granted : goal.returns-clause-granted
 returns-clause-granted c =

@@ -8,7 +8,7 @@ use Rattle.btf_model.specs.Table.{Table}
 use Rattle.btf_rewrite_model.specs.Pass.{Layout}
 use Rattle.btf_rewrite_model.specs.Rewritten.{pass_of}
 use Rattle.btf_table.specs.PassStep.{BeginsAsked}
-use Rattle.vbtf.specs.Kernel.{AreAnswersOf, RewritesForKernel, ListsAnswers, policy_chosen, ids_chosen}
+use Rattle.vbtf.specs.Kernel.{AreAnswersOf, RewritesForKernel, ListsAnswers, policy_chosen, ids_chosen, rewrite_chosen}
 use Rattle.vbtf.specs.Program.{layout_named, AreReadableEntries}
 use Rattle.vbtf.proofs.Ending.{refused}
 use Rattle.vbtf.proofs.Kernels.{carried, for_handle}
@@ -93,7 +93,7 @@ returns-clause-rewritten c = λ owned sections symbols.
     let w = (goal.at.returns-clause-rewritten c).After-owner in
     let kernel = c.args.kernel.now in
     let ended = refused c.report-in-Err-answer.result c.report-in-Err-answer.new.fault (refusal_of c.in-Err-answer.error)
-    (RewritesForKernel kernel.features (policy_chosen kernel) c.deref_mut.result.now.btf (ids_chosen kernel) (layout_of c.in-Ok-Some.program.sections c.in-Ok-Some.program.symbols) c.rewritten-answer.new.btf)
+    (RewritesForKernel kernel.features (rewrite_chosen kernel (layout_of c.in-Ok-Some.program.sections c.in-Ok-Some.program.symbols)) c.deref_mut.result.now.btf c.rewritten-answer.new.btf)
     c.in-Err-answer.ensures.rewrites c.report-in-Err-answer.ensures in (
       c.owner.ensures.0,
       same_ext w,

@@ -3,8 +3,8 @@ use Rattle.btf_model.specs.Refusal.{UnexpectedBtfType}
 use Rattle.btf_model.specs.Value.{HasVariants, FindsVariant}
 use Rattle.btf_plain.specs.Error.{MeetsOrNoMemory, Meets}
 use Rattle.btf_above.specs.Variants.{enum_variant, enum64_variant, HaveUtf8Names}
-use Rattle.btf_plain.specs.Fallback.{variant_of, fallback_value}
-use Rattle.btf_above.proofs.Values.{enum_has, enum64_has, union_has, plain_union, other_has, found_among, told_of}
+use Rattle.btf_plain.specs.Fallback.{fallback_variant, fallback_value}
+use Rattle.btf_above.proofs.Values.{enum_has, enum64_has, union_has, plain_union, other_has, found_among, reported_of}
 use Rattle.btf_above.proofs.above.value.value_at.Goals as goal
 
 pub returns-in-Enum-clause-value : goal.returns-in-Enum-clause-value
@@ -14,7 +14,7 @@ returns-in-Enum-clause-value c =
 
 pub returns-in-Enum-clause-no_memory : goal.returns-in-Enum-clause-no_memory
 returns-in-Enum-clause-no_memory c =
-    told_of c.args.btf.now c.args.type_id c.args.name.now (map enum_variant c.variants.result.now) c.find_value.result
+    reported_of c.args.btf.now c.args.type_id c.args.name.now (map enum_variant c.variants.result.now) c.find_value.result
     (enum_has c.args.btf.now c.args.type_id c.in_ok-t.field-0.now c.in-Enum.t c.variants.result.now c.in_ok-t.ensures c.in-Enum.is c.variants.ensures.words) c.find_value.ensures.no_memory
 
 pub returns-in-Enum64-clause-value : goal.returns-in-Enum64-clause-value
@@ -26,22 +26,22 @@ returns-in-Enum64-clause-value c =
 pub returns-in-Enum64-clause-no_memory : goal.returns-in-Enum64-clause-no_memory
 returns-in-Enum64-clause-no_memory c =
     let vs : _ = c.variants-in-Enum64.result.now in
-    told_of c.args.btf.now c.args.type_id c.args.name.now (map enum64_variant vs) c.find_value-in-Enum64.result
+    reported_of c.args.btf.now c.args.type_id c.args.name.now (map enum64_variant vs) c.find_value-in-Enum64.result
     (enum64_has c.args.btf.now c.args.type_id c.in_ok-t.field-0.now c.in-Enum64.t vs c.in_ok-t.ensures c.in-Enum64.is c.variants-in-Enum64.ensures.words) c.find_value-in-Enum64.ensures.no_memory
 
 pub returns-in-Some-clause-value : goal.returns-in-Some-clause-value
 returns-in-Some-clause-value c =
     let vs : _ = c.in-Some.fallback.now.variants.items in
-    found_among c.args.btf.now c.args.type_id c.args.name.now (map variant_of vs) c.find_value-in-Some.result
+    found_among c.args.btf.now c.args.type_id c.args.name.now (map fallback_variant vs) c.find_value-in-Some.result
     (union_has c.args.btf.now c.args.type_id c.in_ok-t.field-0.now c.in-Union.t (fallback_value c.in-Some.fallback.now) c.in_ok-t.ensures c.in-Union.is c.in-Some.ensures)
-    (subst (λ (ws : _). MeetsOrNoMemory (λ v. v) c.find_value-in-Some.result (FindsVariant c.args.btf.now.strings c.args.name.now (map variant_of ws))) c.deref.ensures.value c.find_value-in-Some.ensures.found)
+    (subst (λ (ws : _). MeetsOrNoMemory (λ v. v) c.find_value-in-Some.result (FindsVariant c.args.btf.now.strings c.args.name.now (map fallback_variant ws))) c.deref.ensures.value c.find_value-in-Some.ensures.found)
 
 pub returns-in-Some-clause-no_memory : goal.returns-in-Some-clause-no_memory
 returns-in-Some-clause-no_memory c =
     let vs : _ = c.in-Some.fallback.now.variants.items in
-    told_of c.args.btf.now c.args.type_id c.args.name.now (map variant_of vs) c.find_value-in-Some.result
+    reported_of c.args.btf.now c.args.type_id c.args.name.now (map fallback_variant vs) c.find_value-in-Some.result
     (union_has c.args.btf.now c.args.type_id c.in_ok-t.field-0.now c.in-Union.t (fallback_value c.in-Some.fallback.now) c.in_ok-t.ensures c.in-Union.is c.in-Some.ensures)
-    (subst (λ (ws : _). HaveUtf8Names c.args.btf.now.strings (map variant_of ws) → Meets (λ v. v) c.find_value-in-Some.result (FindsVariant c.args.btf.now.strings c.args.name.now (map variant_of ws))) c.deref.ensures.value c.find_value-in-Some.ensures.no_memory)
+    (subst (λ (ws : _). HaveUtf8Names c.args.btf.now.strings (map fallback_variant ws) → Meets (λ v. v) c.find_value-in-Some.result (FindsVariant c.args.btf.now.strings c.args.name.now (map fallback_variant ws))) c.deref.ensures.value c.find_value-in-Some.ensures.no_memory)
 
 pub returns-in-None-clause-value : goal.returns-in-None-clause-value
 returns-in-None-clause-value c = inl (plain_union c.args.btf.now c.args.type_id c.in_ok-t.field-0.now c.in-Union.t c.in_ok-t.ensures c.in-Union.is c.in-None.ensures)

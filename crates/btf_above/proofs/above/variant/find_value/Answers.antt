@@ -1,7 +1,7 @@
 use Rattle.std.proofs.Common.{map, length, refl, ap, ◌∙◌}
 use Rattle.std.specs.Option.{option_map}
 use Rattle.std.proofs.lemmas.Option.{slice_get-map, slice_get_read}
-use Rattle.btf_above.proofs.Finding.{handed, found_here, passed_here, error_here, told_here}
+use Rattle.btf_above.proofs.Finding.{handed, found_here, passed_here, error_here, reported_here}
 use Rattle.btf_above.proofs.above.variant.find_value.Goals as goal
 
 pub returns-in_err-is_named-clause-found : goal.returns-in_err-is_named-clause-found
@@ -17,7 +17,7 @@ pub returns-in_err-is_named-clause-no_memory : goal.returns-in_err-is_named-clau
 returns-in_err-is_named-clause-no_memory g c =
     let vs : _ = c.args.variants.now in
     let i : _ = c.loop-variant.variant-index in
-    told_here c.args.btf.now.strings c.args.name.now (map g.V.Variant.variant vs) i c.name_offset.result (g.V.Variant.variant c.variant-item.result) c.in_err-is_named.field-0.0 c.from_residual.result
+    reported_here c.args.btf.now.strings c.args.name.now (map g.V.Variant.variant vs) i c.name_offset.result (g.V.Variant.variant c.variant-item.result) c.in_err-is_named.field-0.0 c.from_residual.result
     (handed c.from_residual.result c.in_err-is_named.field-0.0 c.from_residual.ensures.1)
     (slice_get-map g.V.Variant.variant vs i ∙ ap (option_map g.V.Variant.variant) (slice_get_read vs (length vs) i c.variant-item.result refl c.loop-variant-test.true c.variant-item.is))
     c.loop-variant.invariant c.name_offset.ensures c.in_err-is_named.ensures.no_memory

@@ -5,7 +5,7 @@ use Rattle.btf_cli.specs.Settings.{SetIds, ksyms_set, placeholder_set}
 use Rattle.btf_cli.specs.Word.{setting_of}
 use Rattle.btf_cli.specs.declared.word.Word.{Word}
 use Rattle.btf_cli.proofs.Readings.{IsMet, unread, ksyms_again, placeholder_again, read_next, read_whole, first_id, no_id, placeholder_alone, no_ksyms, no_placeholder, some_ids, no_ids}
-use Rattle.btf_cli.proofs.Told.{told}
+use Rattle.btf_cli.proofs.Asked.{setting_asked}
 use Rattle.btf_cli.proofs.request.Request.read.Goals as goal
 use Rattle.btf_cli.proofs.request.Request.read.Goals.{in-Ksyms+in_ok-store_id-in-Ksyms, in-Placeholder+in_ok-store_id-in-Placeholder, in_default, in-Some-default, in-None-None}
 
@@ -62,7 +62,7 @@ returns-in-None-Some-clause-none c = λ request asked.
 pub returns-clause-some : goal.returns-clause-some
 returns-clause-some c =
     let read = read_whole c.args.words.now c.loop-word.word-index c.loop-word.ksyms c.loop-word.placeholder c.loop-word-test.false c.loop-word.invariant in
-    let words_set = map told (texts c.args.words.now) in
+    let words_set = map setting_asked (texts c.args.words.now) in
     let ids_set : SetIds words_set c.match-ksyms.ksyms =
     elim c.match-ksyms.branch [
       | in-Some-default w ↦ some_ids (texts c.args.words.now) c.loop-word.ksyms c.loop-word.placeholder w.in-Some-default.datasec_id c.match-ksyms.ksyms read w.in-Some-default.is-0 w.ksyms-is

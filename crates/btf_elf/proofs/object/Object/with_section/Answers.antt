@@ -1,8 +1,8 @@
 use Rattle.std.proofs.Common.{◌≡◌, ◌∙◌, ◌+◌, ◌^◌, ◌<◌, ◌≤◌, ◌*◌, ℕ, length, sym, ap, subst, arith}
 use Rattle.btf_elf_model.specs.Object as model
-use Rattle.btf_elf_model.specs.Header.{header_len}
+use Rattle.btf_elf_model.specs.Header.{file_header_len}
 use Rattle.btf_elf_model.specs.Replaced.{place}
-use Rattle.btf_elf.specs.Writing.{rewritten}
+use Rattle.btf_elf.specs.Writing.{file_with_section}
 use Rattle.btf_elf.proofs.Options.{some_since_test}
 use Rattle.btf_elf.proofs.Replacing.{IsRewrite, has_replaced, header_within}
 use Rattle.btf_elf.proofs.object.Object.with_section.Goals as goal
@@ -11,7 +11,7 @@ pub rewritten-requires-clause-header : goal.rewritten-requires-clause-header
 rewritten-requires-clause-header c =
     let o = c.args.self.now in
     let valid : model.IsObject o.bytes o = subst (λ (x : model.Object). model.IsObject x.bytes x) c.self.view_is c.self.invariant.object in
-    subst (λ (x : model.Object). x.header.section_headers + header_len * c.args.index + 40 ≤ length x.bytes) (sym c.self.view_is)
+    subst (λ (x : model.Object). x.header.section_headers + file_header_len * c.args.index + 40 ≤ length x.bytes) (sym c.self.view_is)
     (header_within o c.args.index c.in_ok-section.section valid c.in_ok-section.ensures.0)
 
 pub returns-clause-ok : goal.returns-clause-ok
@@ -29,7 +29,7 @@ returns-clause-ok c =
       end = omega (arith, fits, at);
       file_is =
           c.in_ok-file.ensures
-          ∙ ap (λ (x : model.Object). rewritten x.header x.bytes c.args.index offset given) c.self.view_is
-          ∙ ap (λ (n : ℕ). rewritten o.header o.bytes c.args.index n given) at;
+          ∙ ap (λ (x : model.Object). file_with_section x.header x.bytes c.args.index offset given) c.self.view_is
+          ∙ ap (λ (n : ℕ). file_with_section o.header o.bytes c.args.index n given) at;
     } in
     has_replaced o c.args.index s given c.in_ok-file.file.items made

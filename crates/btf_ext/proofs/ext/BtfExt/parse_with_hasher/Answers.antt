@@ -3,7 +3,7 @@ use Rattle.std.proofs.lemmas.Option.{IfSome_then}
 use Rattle.btf_model.specs.Ext.{IsExt, relocation_section}
 use Rattle.btf_plain.specs.Error.{refusal_of}
 use Rattle.btf_ext.specs.BtfExt.{ext}
-use Rattle.btf_ext.specs.ExtHeader.{header, range, part}
+use Rattle.btf_ext.specs.ExtHeader.{ext_header, range, part}
 use Rattle.btf_ext.specs.SecInfo.{section_of}
 use Rattle.btf_ext.specs.declared.sections.SecInfo.{SecInfo}
 use Rattle.btf_ext.proofs.Exts.{HasParts, line_refused, core_refused, funcs_refused, lines_refused, relocations_refused, whole_ext, some_sections, wide_part}
@@ -14,34 +14,34 @@ pub returns-in_err-line : goal.returns-in_err-line
 returns-in_err-line g c =
     handed_on ext c.in_err-line.field-0.0 c.from_residual-in_err-line.result (IsExt c.args.endianness c.args.data.now c.args.btf.now.strings) c.from_residual-in_err-line.ensures.1
     (known_refusal c.in_err-line.field-0.0 c.in_err-line.ensures.0 (λ f. IsExt c.args.endianness c.args.data.now c.args.btf.now.strings (Err f)) c.in_err-line.ensures.1
-    (line_refused c.args.endianness c.args.data.now c.args.btf.now.strings (header c.in_ok-header.header) (part c.in_ok-func.func) c.in_err-line.ensures.0 c.in_ok-header.ensures c.in_ok-func.ensures c.in_err-line.ensures.2))
+    (line_refused c.args.endianness c.args.data.now c.args.btf.now.strings (ext_header c.in_ok-header.header) (part c.in_ok-func.func) c.in_err-line.ensures.0 c.in_ok-header.ensures c.in_ok-func.ensures c.in_err-line.ensures.2))
 
 pub returns-in_err-core : goal.returns-in_err-core
 returns-in_err-core g c =
     handed_on ext c.in_err-core.field-0.0 c.from_residual-in_err-core.result (IsExt c.args.endianness c.args.data.now c.args.btf.now.strings) c.from_residual-in_err-core.ensures.1
     (known_refusal c.in_err-core.field-0.0 c.in_err-core.ensures.0 (λ f. IsExt c.args.endianness c.args.data.now c.args.btf.now.strings (Err f)) c.in_err-core.ensures.1
-    (core_refused c.args.endianness c.args.data.now c.args.btf.now.strings (header c.in_ok-header.header) (part c.in_ok-func.func) (part c.in_ok-line.line) c.in_err-core.ensures.0 c.in_ok-header.ensures c.in_ok-func.ensures c.in_ok-line.ensures c.in_err-core.ensures.2))
+    (core_refused c.args.endianness c.args.data.now c.args.btf.now.strings (ext_header c.in_ok-header.header) (part c.in_ok-func.func) (part c.in_ok-line.line) c.in_err-core.ensures.0 c.in_ok-header.ensures c.in_ok-func.ensures c.in_ok-line.ensures c.in_err-core.ensures.2))
 
 pub returns-in_err-func_info : goal.returns-in_err-func_info
 returns-in_err-func_info g c =
-    let parts : HasParts c.args.endianness c.args.data.now (header c.in_ok-header.header) (part c.in_ok-func.func) (part c.in_ok-line.line) (part c.in_ok-core.core) = record { header = c.in_ok-header.ensures; func_part = c.in_ok-func.ensures; line_part = c.in_ok-line.ensures; core_part = c.in_ok-core.ensures } in
+    let parts : HasParts c.args.endianness c.args.data.now (ext_header c.in_ok-header.header) (part c.in_ok-func.func) (part c.in_ok-line.line) (part c.in_ok-core.core) = record { header = c.in_ok-header.ensures; func_part = c.in_ok-func.ensures; line_part = c.in_ok-line.ensures; core_part = c.in_ok-core.ensures } in
     handed_on ext c.in_err-func_info.field-0.0 c.from_residual-in_err-func_info.result (IsExt c.args.endianness c.args.data.now c.args.btf.now.strings) c.from_residual-in_err-func_info.ensures.1
     (IfSome_then (refusal_of c.in_err-func_info.field-0.0) c.in_err-func_info.ensures (λ f e.
-    funcs_refused c.args.endianness c.args.data.now c.args.btf.now.strings (header c.in_ok-header.header) (part c.in_ok-func.func) (part c.in_ok-line.line) (part c.in_ok-core.core) f parts e))
+    funcs_refused c.args.endianness c.args.data.now c.args.btf.now.strings (ext_header c.in_ok-header.header) (part c.in_ok-func.func) (part c.in_ok-line.line) (part c.in_ok-core.core) f parts e))
 
 pub returns-in_err-line_info : goal.returns-in_err-line_info
 returns-in_err-line_info g c =
-    let parts : HasParts c.args.endianness c.args.data.now (header c.in_ok-header.header) (part c.in_ok-func.func) (part c.in_ok-line.line) (part c.in_ok-core.core) = record { header = c.in_ok-header.ensures; func_part = c.in_ok-func.ensures; line_part = c.in_ok-line.ensures; core_part = c.in_ok-core.ensures } in
+    let parts : HasParts c.args.endianness c.args.data.now (ext_header c.in_ok-header.header) (part c.in_ok-func.func) (part c.in_ok-line.line) (part c.in_ok-core.core) = record { header = c.in_ok-header.ensures; func_part = c.in_ok-func.ensures; line_part = c.in_ok-line.ensures; core_part = c.in_ok-core.ensures } in
     handed_on ext c.in_err-line_info.field-0.0 c.from_residual-in_err-line_info.result (IsExt c.args.endianness c.args.data.now c.args.btf.now.strings) c.from_residual-in_err-line_info.ensures.1
     (IfSome_then (refusal_of c.in_err-line_info.field-0.0) c.in_err-line_info.ensures (λ f e.
-    lines_refused c.args.endianness c.args.data.now c.args.btf.now.strings (header c.in_ok-header.header) (part c.in_ok-func.func) (part c.in_ok-line.line) (part c.in_ok-core.core) c.in_ok-func_info.ensures.0 f parts c.in_ok-func_info.ensures.1 e))
+    lines_refused c.args.endianness c.args.data.now c.args.btf.now.strings (ext_header c.in_ok-header.header) (part c.in_ok-func.func) (part c.in_ok-line.line) (part c.in_ok-core.core) c.in_ok-func_info.ensures.0 f parts c.in_ok-func_info.ensures.1 e))
 
 pub returns-in_err-relocations : goal.returns-in_err-relocations
 returns-in_err-relocations g c =
-    let parts : HasParts c.args.endianness c.args.data.now (header c.in_ok-header.header) (part c.in_ok-func.func) (part c.in_ok-line.line) (part c.in_ok-core.core) = record { header = c.in_ok-header.ensures; func_part = c.in_ok-func.ensures; line_part = c.in_ok-line.ensures; core_part = c.in_ok-core.ensures } in
+    let parts : HasParts c.args.endianness c.args.data.now (ext_header c.in_ok-header.header) (part c.in_ok-func.func) (part c.in_ok-line.line) (part c.in_ok-core.core) = record { header = c.in_ok-header.ensures; func_part = c.in_ok-func.ensures; line_part = c.in_ok-line.ensures; core_part = c.in_ok-core.ensures } in
     handed_on ext c.in_err-relocations.field-0.0 c.from_residual-in_err-relocations.result (IsExt c.args.endianness c.args.data.now c.args.btf.now.strings) c.from_residual-in_err-relocations.ensures.1
     (IfSome_then (refusal_of c.in_err-relocations.field-0.0) c.in_err-relocations.ensures (λ f e.
-    relocations_refused c.args.endianness c.args.data.now c.args.btf.now.strings (header c.in_ok-header.header) (part c.in_ok-func.func) (part c.in_ok-line.line) (part c.in_ok-core.core) c.in_ok-func_info.ensures.0 c.in_ok-line_info.ensures.0 f parts c.in_ok-func_info.ensures.1 c.in_ok-line_info.ensures.1 e))
+    relocations_refused c.args.endianness c.args.data.now c.args.btf.now.strings (ext_header c.in_ok-header.header) (part c.in_ok-func.func) (part c.in_ok-line.line) (part c.in_ok-core.core) c.in_ok-func_info.ensures.0 c.in_ok-line_info.ensures.0 f parts c.in_ok-func_info.ensures.1 c.in_ok-line_info.ensures.1 e))
 
 pub read-requires-5 : goal.read-requires-5
 read-requires-5 g c = λ some.
@@ -63,11 +63,11 @@ read_relocations-requires-clause-wide g c = λ lt.
 
 pub returns : goal.returns
 returns g c =
-    let parts : HasParts c.args.endianness c.args.data.now (header c.in_ok-header.header) (part c.in_ok-func.func) (part c.in_ok-line.line) (part c.in_ok-core.core) = record { header = c.in_ok-header.ensures; func_part = c.in_ok-func.ensures; line_part = c.in_ok-line.ensures; core_part = c.in_ok-core.ensures } in
+    let parts : HasParts c.args.endianness c.args.data.now (ext_header c.in_ok-header.header) (part c.in_ok-func.func) (part c.in_ok-line.line) (part c.in_ok-core.core) = record { header = c.in_ok-header.ensures; func_part = c.in_ok-func.ensures; line_part = c.in_ok-line.ensures; core_part = c.in_ok-core.ensures } in
     let order = c.args.endianness in
     let funcs = c.in_ok-func_info.ensures in
     let lines = c.in_ok-line_info.ensures in
-    whole_ext order c.args.data.now c.args.btf.now.strings (header c.in_ok-header.header) (part c.in_ok-func.func) (part c.in_ok-line.line) (part c.in_ok-core.core) funcs.0 lines.0 (map section_of c.in_ok-relocations.relocations.items)
+    whole_ext order c.args.data.now c.args.btf.now.strings (ext_header c.in_ok-header.header) (part c.in_ok-func.func) (part c.in_ok-line.line) (part c.in_ok-core.core) funcs.0 lines.0 (map section_of c.in_ok-relocations.relocations.items)
     (ext (record { func_info_rec_size = c.in_ok-func.func.rec_size; func_info = c.in_ok-func_info.func_info; line_info_rec_size = c.in_ok-line.line.rec_size; line_info = c.in_ok-line_info.line_info; relocations = c.in_ok-read_relocations.field-0 }))
     parts funcs.1 lines.1 c.in_ok-relocations.ensures refl funcs.2 refl lines.2
     (c.in_ok-read_relocations.ensures ∙ ap (λ (xs : List SecInfo). map (relocation_section order c.in_ok-core.core.rec_size) (map section_of xs)) c.deref.ensures.value)

@@ -3,9 +3,9 @@ use Rattle.btf_layout_model.specs.Alignment.{Fixed, SameAs, Unaligned, Aligns, C
 use Rattle.btf_layout_model.proofs.Small.{small}
 use Rattle.btf_model.specs.Refusal.{UnexpectedBtfType}
 use Rattle.btf_records.specs.BtfType.{record_of}
-use Rattle.btf_layout.specs.Frame.{IsFrame, StepIs}
+use Rattle.btf_layout.specs.Frame.{IsMemberFrame, MemberStepIs}
 use Rattle.btf_layout.specs.declared.frame.Step.{Step}
-use Rattle.btf_layout.specs.Shape.{members_of}
+use Rattle.btf_layout.specs.Shape.{layout_members}
 use Rattle.btf_layout.proofs.Knowing.{same_step, known_shape, not_there}
 use Rattle.btf_layout.proofs.Frames.{At, member_step, member_aligned, packed, next_frame, ended, positive}
 use Rattle.btf_layout.proofs.frame.Frame.step.Goals as goal
@@ -21,7 +21,7 @@ returns-in-Fixed-clause-step c =
 
 pub returns-in-SameAs-clause-step : goal.returns-in-SameAs-clause-step
 returns-in-SameAs-clause-step c =
-    subst (λ (s : Step). StepIs c.args.table.now.records c.args.known.now c.args.self.now.id s) (sym c.step_to.ensures)
+    subst (λ (s : Step). MemberStepIs c.args.table.now.records c.args.known.now c.args.self.now.id s) (sym c.step_to.ensures)
     (same_step c.args.table.now.records c.args.known.now c.args.self.now.id c.in-SameAs.type_id c.requires.known
     (known_shape c.args.table.now.records c.args.self.now.id (record_of c.in-Ok.btf_type.now) (SameAs c.in-SameAs.type_id) c.in-Ok.ensures.record_is (c.in-SameAs.ensures c.args.self.now.id)))
 
@@ -33,7 +33,7 @@ returns-in-Unexpected-clause-step c =
 pub loop-member-init : goal.loop-member-init
 loop-member-init c = record {
   shape =
-      known_shape c.args.table.now.records c.args.self.now.id (record_of c.in-Ok.btf_type.now) (Composed c.in-Composed.size (members_of (record_of c.in-Ok.btf_type.now))) c.in-Ok.ensures.record_is (c.in-Composed.ensures c.args.self.now.id)
+      known_shape c.args.table.now.records c.args.self.now.id (record_of c.in-Ok.btf_type.now) (Composed c.in-Composed.size (layout_members (record_of c.in-Ok.btf_type.now))) c.in-Ok.ensures.record_is (c.in-Composed.ensures c.args.self.now.id)
       ∙ sym c.new-composite.ensures;
   frame = c.requires.frame;
   knows = c.requires.known;
@@ -68,7 +68,7 @@ pub loop-member-preserved : goal.loop-member-preserved
 loop-member-preserved c = record {
   shape = c.loop-member.invariant.shape;
   frame =
-      subst (λ (n : ℕ). IsFrame c.args.table.now.records (record { id = c.loop-member.self.id; member = c.loop-member.self.member + 1; largest = n })) (sym c.max-self.ensures)
+      subst (λ (n : ℕ). IsMemberFrame c.args.table.now.records (record { id = c.loop-member.self.id; member = c.loop-member.self.member + 1; largest = n })) (sym c.max-self.ensures)
       (next_frame c.args.table.now.records c.loop-member.self c.args.self.now.id c.new-composite.result c.in-Some.member.now (at (goal.at.loop-member-preserved c).In-Some) c.in-Ok-alignment_in.alignment (aligned (goal.at.loop-member-preserved c).In-Ok-alignment_in (at (goal.at.loop-member-preserved c).In-Some)) (sym c.if-not-is_in_place.ensures));
   knows = c.loop-member.invariant.knows;
   id = c.loop-member.invariant.id;

@@ -5,9 +5,9 @@ use Rattle.std.proofs.lemmas.List.Sorted.{answers_always}
 use Rattle.btf_model.specs.Record.{vlen}
 use Rattle.btf_rewrite_model.specs.Made.{entries}
 use Rattle.btf_rewrite_model.proofs.Granted.{vlen_small}
-use Rattle.btf_plain.specs.Items.{entry_words}
+use Rattle.btf_plain.specs.Items.{code_entry_words}
 use Rattle.btf_object_model.specs.Kconfig.{total}
-use Rattle.btf_object.specs.Kconfig.{extern_of, HasExterns}
+use Rattle.btf_object.specs.Kconfig.{model_extern, HasExterns}
 use Rattle.btf_object.specs.declared.finalize.kconfig.Extern.{Extern}
 use Rattle.btf_object.proofs.Externs.{AreLaidOut, has_externs, section_made, entries_count, if_some, if_none, known_some}
 use Rattle.btf_object.proofs.FinalSections.{none_there}
@@ -18,7 +18,7 @@ use Rattle.btf_object.proofs.finalize.kconfig.laid_out_section.Goals.{In_ok-entr
 len_is : (c : In_ok-entries) → length c.sort_by_key.new.self.items ≡ length c.in-Some.externs.items
 len_is c = omega (arith, c.in-Some.externs.ok.0, c.sort_by_key.new.self.ok.0, c.in_ok-sort_by_key.ensures.len)
 
-sorted : (c : In_ok-entries) → HasExterns c.args.btf.now c.args.data_sec.now (map extern_of c.sort_by_key.new.self.items)
+sorted : (c : In_ok-entries) → HasExterns c.args.btf.now c.args.data_sec.now (map model_extern c.sort_by_key.new.self.items)
 sorted c =
     let key : Extern → Reverse ℕ × ℕ × Bor (List ℕ) = λ e. (record { 0 = e.value.alignment }, e.value.size, e.name) in
     let keys = answers_always _ _ _ (λ f a r next called. search rules) in
@@ -40,8 +40,8 @@ entries_len e c len =
 pub returns-in_default-2-clause-made : goal.returns-in_default-2-clause-made
 returns-in_default-2-clause-made c =
     let at = goal.at.returns-in_default-2-clause-made c in
-    let large : 2 ^ 32 ≤ total (map extern_of c.deref.result.now) = if_none c.in_ok-entries.field-0 _ (none_there c.in_ok-entries.field-0 c.in_default-2.not-Some) c.in_ok-entries.ensures.none in
-    inr (inr (map extern_of c.sort_by_key.new.self.items, sorted at.In_ok-entries, subst (λ (xs : List Extern). 2 ^ 32 ≤ total (map extern_of xs)) c.deref.ensures.value large))
+    let large : 2 ^ 32 ≤ total (map model_extern c.deref.result.now) = if_none c.in_ok-entries.field-0 _ (none_there c.in_ok-entries.field-0 c.in_default-2.not-Some) c.in_ok-entries.ensures.none in
+    inr (inr (map model_extern c.sort_by_key.new.self.items, sorted at.In_ok-entries, subst (λ (xs : List Extern). 2 ^ 32 ≤ total (map model_extern xs)) c.deref.ensures.value large))
 
 pub new-requires : goal.new-requires
 new-requires c =
@@ -54,4 +54,4 @@ returns-clause-made c =
     let count = entries_len at.In_ok-entries at.In-Some-2 (len_is at.In_ok-entries) in
     section_made c.args.btf.now c.args.data_sec.now c.new.result c.sort_by_key.new.self.items c.in-Some-2.entries.items c.in-Some-2.size c.in-Some-2.entries.len (sorted at.In_ok-entries) (sym c.size.ensures ∙ c.if-size-ne0.false) (laid at.In-Some-2)
     (c.in-Some-2.entries.ok.0 ∙ count) count (c.info.ensures.tail ∙ ap (λ (n : ℕ). 3 * vlen n) c.info.ensures.value)
-    (c.new.ensures ∙ ap (λ (n : ℕ). record { name = n; info = 15 * 2 ^ 24 + c.in-Some-2.entries.len; third = c.in-Some-2.size; tail = flat_map entry_words c.in-Some-2.entries.items }) c.name_offset.ensures.value)
+    (c.new.ensures ∙ ap (λ (n : ℕ). record { name = n; info = 15 * 2 ^ 24 + c.in-Some-2.entries.len; third = c.in-Some-2.size; tail = flat_map code_entry_words c.in-Some-2.entries.items }) c.name_offset.ensures.value)

@@ -4,7 +4,7 @@ use Rattle.btf_records.specs.BtfType.{record_of}
 use Rattle.btf_relocate_model.specs.Comparison.{enumerators_of}
 use Rattle.btf_relocate_model.specs.Comparison as model
 use Rattle.btf_relocate_model.specs.declared.error.RelocationError.TheVariants.{OutOfMemory}
-use Rattle.btf_relocate.specs.Enumerators.{variant_of}
+use Rattle.btf_relocate.specs.Enumerators.{enumerator_variant}
 use Rattle.btf_relocate.specs.Steps.{HasNames}
 use Rattle.btf_relocate.proofs.Definitions.{starts, name_fails, all_read, one_more_name, none_at}
 use Rattle.btf_relocate.proofs.Errors.{left_by}
@@ -27,10 +27,10 @@ returns-in_err-name c =
     let e = c.in_err-name.field-0.0 in
     left_by c.from_residual.result e (λ set. (names : List (List ℕ)) × (model.essential_names c.args.table.now vs ≡ Ok names) × HasNames set names)
     (λ x. (x ≡ OutOfMemory) ⊎ (model.essential_names c.args.table.now vs ≡ Err x)) c.from_residual.ensures.1
-    (inr (name_fails c.args.table.now vs c.loop-index.names c.loop-index.index c.loop-index.invariant (variant_of c.in-Some.enumerator) (sym c.in-Some.ensures) e c.in_err-name.ensures))
+    (inr (name_fails c.args.table.now vs c.loop-index.names c.loop-index.index c.loop-index.invariant (enumerator_variant c.in-Some.enumerator) (sym c.in-Some.ensures) e c.in_err-name.ensures))
 
 pub loop-index-preserved : goal.loop-index-preserved
 loop-index-preserved c =
     let vs = enumerators_of (record_of c.args.btf_type.now) in
-    one_more_name c.args.table.now vs c.loop-index.names c.insert.new.self c.loop-index.index c.loop-index.invariant (variant_of c.in-Some.enumerator) (sym c.in-Some.ensures)
+    one_more_name c.args.table.now vs c.loop-index.names c.insert.new.self c.loop-index.index c.loop-index.invariant (enumerator_variant c.in-Some.enumerator) (sym c.in-Some.ensures)
     c.in_ok-name.name.now c.essential_name.result c.in_ok-name.ensures c.essential_name.ensures c.in_ok-insert.ensures.updates

@@ -9,11 +9,11 @@ use Rattle.btf_rewrite_model.specs.Fault.{member_checks}
 use Rattle.std.specs.Option.{unwrap_or}
 use Rattle.btf_records.specs.BtfType.{record_of}
 use Rattle.btf_records.specs.declared.btf_type.BtfType.TheVariants.{DataSec}
-use Rattle.btf_table.proofs.SectionRules.{told_on}
+use Rattle.btf_table.proofs.SectionRules.{reported_on}
 use Rattle.btf_table.proofs.sanitize.data_sec.as_struct.Goals as goal
 
 pub returns-in_err-members-clause-answer : goal.returns-in_err-members-clause-answer
 returns-in_err-members-clause-answer c = λ p lower same names.
-    told_on (λ new. record_of (unwrap_or new (DataSec c.args.data_sec.now))) c.in_err-members.field-0.0 c.from_residual.result (first_fault (flat_map (member_checks p) (entries c.args.data_sec.now.tail))) _
+    reported_on (λ new. record_of (unwrap_or new (DataSec c.args.data_sec.now))) c.in_err-members.field-0.0 c.from_residual.result (first_fault (flat_map (member_checks p) (entries c.args.data_sec.now.tail))) _
     (model.struct c.args.name_offset (vlen c.args.data_sec.now.info) (vlen c.args.data_sec.now.info) (entry_members p lower (length lower) (entries c.args.data_sec.now.tail))) c.from_residual.ensures.1
     (c.in_err-members.ensures.answer p lower same names)

@@ -8,12 +8,12 @@ use Rattle.btf_rewrite_model.specs.Pass.{Pass}
 use Rattle.btf_model.proofs.Comparisons.{same_ok}
 use Rattle.btf_plain.specs.Error.{MeetsOrNoMemory}
 use Rattle.btf_plain.specs.declared.error.BtfError.{BtfError}
-use Rattle.btf_rewrite_model.specs.Made.{data_sec}
-use Rattle.btf_plain.specs.Items.{entry_words}
+use Rattle.btf_rewrite_model.specs.Made.{made_data_sec}
+use Rattle.btf_plain.specs.Items.{code_entry_words}
 use Rattle.btf_plain.specs.declared.items.DataSecEntry.{DataSecEntry}
 use Rattle.btf_records.specs.declared.btf_type.BtfType.TheVariants.{DataSec}
 use Rattle.btf_table.specs.PassStep.{pass_on, Rules}
-use Rattle.btf_table.specs.SectionStep.{filled}
+use Rattle.btf_table.specs.SectionStep.{filler_section}
 use Rattle.btf_table.proofs.Checks.{checked_ok, checked_err}
 use Rattle.btf_plain.proofs.Refused.{handed_on, known_refusal}
 use Rattle.btf_table.proofs.SectionRules.{filler_is, filler_fault, growth_fault, filled_ruled}
@@ -37,10 +37,10 @@ returns-in_err-record_fits c = λ given answers id r before n fills known.
     (λ k some. (same_ok {E = BtfError} k number (sym (c.filler.ensures.there k some).0 ∙ c.in_ok-filler.was), (c.filler.ensures.there k some).1))
     c.in_ok-filler.ensures.answer c.in_ok-filler.ensures.adds c.in_ok-filler.ensures.made in
     let e : BtfError = c.in_err-record_fits.field-0.0 in
-    let told = c.in_err-record_fits.ensures in
+    let reported = c.in_err-record_fits.ensures in
     handed_on (λ new. unwrap_or new (DataSec r)) e c.from_residual-in_err-record_fits.result (Rules p id (DataSec r) before c.filler.new.self) c.from_residual-in_err-record_fits.ensures.1
-    (known_refusal e told.0 (λ refusal. Rules p id (DataSec r) before c.filler.new.self (Err refusal)) told.1
-    (growth_fault p id r c.args.name_offset before c.args.made.now n fills c.args.size known c.filler.new.self number has told.0 (checked_err _ _ told.0 told.2)))
+    (known_refusal e reported.0 (λ refusal. Rules p id (DataSec r) before c.filler.new.self (Err refusal)) reported.1
+    (growth_fault p id r c.args.name_offset before c.args.made.now n fills c.args.size known c.filler.new.self number has reported.0 (checked_err _ _ reported.0 reported.2)))
 
 pub returns : goal.returns
 returns c = λ given answers id r before n fills known.
@@ -53,7 +53,7 @@ returns c = λ given answers id r before n fills known.
     let es = c.push.new.self in
     let size : ℕ = c.max-size.result in
     let items : es.items ≡ record { btf_type = number; offset = 0; size = size } ∷ [] = c.in_ok-push.ensures.items ∙ ap (λ xs. xs ++ record { btf_type = number; offset = 0; size = size } ∷ []) c.in_ok-entries.ensures.items in
-    let made : ℕ → List DataSecEntry → Record = λ count xs. record { name = c.args.name_offset; info = 15 * 2 ^ 24 + count; third = size; tail = flat_map entry_words xs } in
-    let is : c.new.result ≡ filled c.args.name_offset c.args.size number =
-    c.new.ensures ∙ ap (λ (m : ℕ). made m es.items) (es.ok.0 ∙ ap length items) ∙ ap (made 1) items ∙ ap (λ (m : ℕ). data_sec c.args.name_offset m 1 (record { type = number; offset = 0; size = m } ∷ [])) c.max-size.ensures in
+    let made : ℕ → List DataSecEntry → Record = λ count xs. record { name = c.args.name_offset; info = 15 * 2 ^ 24 + count; third = size; tail = flat_map code_entry_words xs } in
+    let is : c.new.result ≡ filler_section c.args.name_offset c.args.size number =
+    c.new.ensures ∙ ap (λ (m : ℕ). made m es.items) (es.ok.0 ∙ ap length items) ∙ ap (made 1) items ∙ ap (λ (m : ℕ). made_data_sec c.args.name_offset m 1 (record { type = number; offset = 0; size = m } ∷ [])) c.max-size.ensures in
     filled_ruled p id r c.args.name_offset before c.args.made.now n fills c.args.size known c.filler.new.self number has (DataSec c.new.result) fits_in.0 is refl c.filler.ensures.names c.filler.ensures.member_type

@@ -13,9 +13,9 @@ use Rattle.btf_rewrite_model.specs.Pass.{Pass, has, asks, asks_below, section_si
 use Rattle.btf_rewrite_model.specs.Rule.{ruled_below}
 use Rattle.btf_rewrite_model.proofs.Passing.{NextAnswers}
 use Rattle.btf_records.specs.declared.btf_type.BtfType.TheVariants.{DataSec}
-use Rattle.btf_table.specs.Adding.{strings_end}
+use Rattle.btf_table.specs.Adding.{next_string_offset}
 use Rattle.btf_rewrite_model.specs.Passing.{AreAnswersTo}
-use Rattle.btf_table.specs.Features.{Resolver, Asks, Called, IsFurther}
+use Rattle.btf_table.specs.Features.{Resolver, AsksResolver, Called, IsFurther}
 use Rattle.btf_table.specs.Layout.{sizes_of}
 use Rattle.btf_table.specs.Btf.{IsType}
 use Rattle.btf_table.specs.PassStep.{Given, pass_on, IsHere, AsksUpTo, Rules, Steps}
@@ -95,7 +95,7 @@ returns-in_err-name_offset-clause-steps g c = λ given id is comes. let policy =
     let StepsTo = Steps p id c.is_supported-granted.new.self.answers (DataSec r) before (record before { changes = c.new_name.new.changes }) in
     handed_on (λ new. unwrap_or new (DataSec r)) c.in_err-name_offset.field-0.0 c.from_residual.result StepsTo c.from_residual.ensures.1
     (IfSome_then _ (c.in_err-name_offset.ensures.answer q refl (has_one g at given id there below)) (λ refusal is.
-    let no = name_refused q id r there there.kind_is (strings_end c.args.btf.now before.changes) refusal here.offset (checked_err _ _ refusal is) in
+    let no = name_refused q id r there there.kind_is (next_string_offset c.args.btf.now before.changes) refusal here.offset (checked_err _ _ refusal is) in
     let both : StepsTo (Err refusal) = (one_asked g at given id there below no.0, no.1) in
     both))
 
@@ -163,7 +163,7 @@ record IsAnswered (p : Pass) (id : ℕ) (r : Record) (name size : ℕ) (before n
 
 module _ (g : Over) (c : After-final_size g) (size : ℕ) (was : c.final_size.result ≡ Ok size) (new : Resolver g.row.F.Denot) (fills : Bool)
     (quiet : asks_zero c.args.request.now.policy c.args.data_sec.now size ≡ false → (new ≡ c.is_supported-granted.new.self) × (fills ≡ is_fillable c.args.request.now.policy c.args.data_sec.now))
-    (asks_it : asks_zero c.args.request.now.policy c.args.data_sec.now size ≡ true → Asks (words g.row.F g.row.G g.row.H g.row.G-Hasher g.row.H-Hasher g.F.FnMut).step features.DataSecZero c.is_supported-granted.new.self (not fills) new) where
+    (asks_it : asks_zero c.args.request.now.policy c.args.data_sec.now size ≡ true → AsksResolver (words g.row.F g.row.G g.row.H g.row.G-Hasher g.row.H-Hasher g.F.FnMut).step features.DataSecZero c.is_supported-granted.new.self (not fills) new) where
   -- the predicate is called for DataSec and DataSecZero, if it is called
   called_two : (first : g.row.F.Denot) → Called (words g.row.F g.row.G g.row.H g.row.G-Hasher g.row.H-Hasher g.F.FnMut).step first c.args.resolver.now.answers c.args.resolver.now.predicate → Called (words g.row.F g.row.G g.row.H g.row.G-Hasher g.row.H-Hasher g.F.FnMut).step first new.answers new.predicate
   called_two first called =
@@ -192,7 +192,7 @@ module _ (g : Over) (c : After-final_size g) (size : ℕ) (was : c.final_size.re
       let two : List FeatureAnswer = new.answers in
       let q : Pass = pass_on c.args.btf.now given two in
       let quiet_so : asks_zero given.policy r size ≡ false → (two ≡ one) × (fills ≡ is_fillable given.policy r) =
-      λ is. let told = quiet (ap (λ pol. asks_zero pol r size) (sym policy) ∙ is) in (ap (λ (s : Resolver g.row.F.Denot). s.answers) told.0, told.1 ∙ ap (λ pol. is_fillable pol r) (sym policy)) in
+      λ is. let reported = quiet (ap (λ pol. asks_zero pol r size) (sym policy) ∙ is) in (ap (λ (s : Resolver g.row.F.Denot). s.answers) reported.0, reported.1 ∙ ap (λ pol. is_fillable pol r) (sym policy)) in
       let zero : asks_zero given.policy r size ≡ true → NextAnswers one features.DataSecZero (not fills) two =
       λ is. asks_next (words g.row.F g.row.G g.row.H g.row.G-Hasher g.row.H-Hasher g.F.FnMut).step features.DataSecZero c.is_supported-granted.new.self new (not fills) (asks_it (ap (λ pol. asks_zero pol r size) (sym policy) ∙ is)) in
       let has_it : has q features.DataSec ≡ granted = granted_two p id r there kind below one granted next size two fills quiet_so zero in

@@ -1,7 +1,7 @@
 use Rattle.std.proofs.Common.{ℕ, ◌+◌, ◌*◌, List, ◌∷◌, ◌++◌, take, drop, ap, sym, ◌∙◌, arith, Ok}
 use Rattle.btf_model.specs.Record.{Record, vlen}
 use Rattle.btf_model.specs.Refusal.{Refusal}
-use Rattle.btf_rewrite_model.specs.Ksyms.{named}
+use Rattle.btf_rewrite_model.specs.Ksyms.{named_parameters}
 use Rattle.btf_model.proofs.Comparisons.{same_ok}
 use Rattle.btf_table.proofs.NamedParams.{named_next, named_all}
 use Rattle.btf_table.proofs.sanitize.func_proto.with_names.Goals as goal
@@ -24,5 +24,5 @@ pub returns : goal.returns
 returns c =
     ap (λ (r : Record). Ok r) (
     c.loop-index.invariant
-    ∙ ap (λ (tail : List ℕ). record c.args.proto.now { tail = tail }) (named_all c.args.name_offset c.loop-index.index c.params-param-items.result.now c.loop-index-test.false ∙ ap (named c.args.name_offset) (sym c.params-param-items.ensures.words))
+    ∙ ap (λ (tail : List ℕ). record c.args.proto.now { tail = tail }) (named_all c.args.name_offset c.loop-index.index c.params-param-items.result.now c.loop-index-test.false ∙ ap (named_parameters c.args.name_offset) (sym c.params-param-items.ensures.words))
     )

@@ -9,7 +9,7 @@ use Rattle.btf_rewrite_model.specs.Pass.{texts_len, param_texts}
 use Rattle.btf_rewrite_model.specs.Rule.{named_params}
 use Rattle.btf_plain.specs.Items.{param_words}
 use Rattle.btf_plain.specs.declared.items.BtfParam.{BtfParam}
-use Rattle.btf_table.specs.Adding.{strings_end, Adds}
+use Rattle.btf_table.specs.Adding.{next_string_offset, Adds}
 use Rattle.btf_table.specs.Checked.{checked}
 use Rattle.btf_table.proofs.Adding.{adds_then}
 use Rattle.btf_table.proofs.Checks.{checked_ok, checked_err}
@@ -21,9 +21,9 @@ pub returns-in_err-name_offset-clause-answer : goal.returns-in_err-name_offset-c
 returns-in_err-name_offset-clause-answer c =
     let i : ℕ = c.loop-index.index in
     let ps : List BtfParam = c.params-param-items.result.now in
-    let offset : ℕ = strings_end c.args.btf.now c.args.changes.now in
+    let offset : ℕ = next_string_offset c.args.btf.now c.args.changes.now in
     let named : Record = record c.args.proto.now { tail = named_params 0 offset c.args.proto.now.tail } in
-    let end : strings_end c.args.btf.now c.loop-index.changes ≡ offset + texts_len (texts_to i ps) = end_after c.args.btf.now c.args.changes.now c.loop-index.changes (texts_to i ps) [] c.loop-index.invariant.1 in
+    let end : next_string_offset c.args.btf.now c.loop-index.changes ≡ offset + texts_len (texts_to i ps) = end_after c.args.btf.now c.args.changes.now c.loop-index.changes (texts_to i ps) [] c.loop-index.invariant.1 in
     handed_on (λ r. r) c.in_err-name_offset.field-0.0 c.from_residual-in_err-name_offset.result (λ answer. answer ≡ checked (first_fault (have_room offset (param_texts 0 c.args.proto.now.tail))) named) c.from_residual-in_err-name_offset.ensures.1
     (IfSome_then _ c.in_err-name_offset.ensures.answer
     (λ refusal is.
@@ -36,9 +36,9 @@ pub loop-index-preserved : goal.loop-index-preserved
 loop-index-preserved c =
     let i : ℕ = c.loop-index.index in
     let ps : List BtfParam = c.params-param-items.result.now in
-    let offset : ℕ = strings_end c.args.btf.now c.args.changes.now in
+    let offset : ℕ = next_string_offset c.args.btf.now c.args.changes.now in
     let new : ℕ = c.in_ok-name_offset.name_offset in
-    let end : strings_end c.args.btf.now c.loop-index.changes ≡ offset + texts_len (texts_to i ps) = end_after c.args.btf.now c.args.changes.now c.loop-index.changes (texts_to i ps) [] c.loop-index.invariant.1 in
+    let end : next_string_offset c.args.btf.now c.loop-index.changes ≡ offset + texts_len (texts_to i ps) = end_after c.args.btf.now c.args.changes.now c.loop-index.changes (texts_to i ps) [] c.loop-index.invariant.1 in
     let one : _ = checked_ok _ _ _ c.in_ok-name_offset.ensures.answer in
     let passed : first_fault (have_room (offset + texts_len (texts_to i ps)) (param_texts i (param_words (at ps i)))) ≡ None = ap (λ (n : ℕ). first_fault (have_room n (param_texts i (param_words (at ps i))))) (sym end) ∙ one.0 in
     let is : new ≡ (if wants_name (at ps i).name_offset (at ps i).btf_type then offset + texts_len (texts_to i ps) else (at ps i).name_offset) =

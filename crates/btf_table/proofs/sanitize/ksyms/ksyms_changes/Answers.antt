@@ -8,7 +8,7 @@ use Rattle.btf_rewrite_model.specs.Ksyms.{ksyms_table, appends_int, int_text}
 use Rattle.btf_records.specs.BtfType.{record_of, fallback_of}
 use Rattle.btf_records.specs.declared.btf_type.BtfType.{BtfType}
 use Rattle.btf_records.specs.declared.btf_type.BtfType.TheVariants.{Int}
-use Rattle.btf_table.specs.Changes.{AreOf, changed}
+use Rattle.btf_table.specs.Changes.{AreChangesOf, changed}
 use Rattle.btf_table.specs.KsymsStep.{ksyms_ids, MakesKsyms, AreStepped}
 use Rattle.btf_plain.proofs.Refused.{handed_on}
 use Rattle.btf_table.proofs.KsymsSteps.{stays_as_stepped, grows_by_int, int_has_room}
@@ -31,7 +31,7 @@ returns c =
     let type_room : length (type_bytes t) ≤ section_limit = omega (arith, c.type_len.ensures.len, c.type_len.ensures.limit) in
     let stepped : AreStepped t ids (length t.records) c.in_ok-new_types.field-0.items = c.in_ok-new_types.ensures ids c.in_ok-step.ensures.1 in
     let is_int : appends_int t ids.placeholder_id ≡ c.in_ok-step.step.target.appends_int = ap (λ x. x.appends_int) (sym c.in_ok-step.ensures.1.target) in
-    let both : AreOf t c.if-step.changes × (changed t c.if-step.changes ≡ ksyms_table t ids) =
+    let both : AreChangesOf t c.if-step.changes × (changed t c.if-step.changes ≡ ksyms_table t ids) =
     elim c.if-step.branch [
       | then-step+in_ok-push_text+in_ok-push_type w ↦
           let here : c.if-step.changes.types.items ≡ c.in_ok-new_types.field-0.items = ap (λ x. x.types.items) w.changes-is ∙ ap (λ v. v.items) (w.push_type.ensures.types ∙ w.push_text.ensures.types) in

@@ -4,13 +4,13 @@ use Rattle.std.proofs.lemmas.List.{length-map, get_or_default}
 use Rattle.std.proofs.lemmas.Option.{IfSome_then}
 use Rattle.btf_model.specs.Table.{Table}
 use Rattle.btf_rewrite_model.specs.Pass.{Pass}
-use Rattle.btf_rewrite_model.specs.Passing.{IsAt}
+use Rattle.btf_rewrite_model.specs.Passing.{IsPassAt}
 use Rattle.btf_records.specs.BtfType.{record_of, fallback_of}
 use Rattle.btf_records.specs.declared.btf_type.BtfType.{BtfType}
 use Rattle.btf_table.specs.Features.{Called}
 use Rattle.btf_table.specs.Layout.{layout_of}
 use Rattle.btf_table.specs.Btf.{IsType}
-use Rattle.btf_table.specs.PassStep.{Given, pass_on, under, IsHere, Comes, IsMade, Passes, BeginsAsked}
+use Rattle.btf_table.specs.PassStep.{Given, pass_on, given_under, IsHere, Comes, IsMade, Passes, BeginsAsked}
 use Rattle.btf_table.specs.declared.sanitize.outcome.Outcome.{Outcome}
 use Rattle.btf_records.specs.declared.btf_type.BtfType.TheVariants.{Unknown}
 use Rattle.btf_plain.proofs.Refused.{handed_on}
@@ -22,13 +22,13 @@ use Rattle.btf_table.proofs.sanitize.pass.pass_changes.Goals as goal
 use Rattle.btf_table.proofs.sanitize.pass.pass_changes.Goals.{After-rewrite_type}
 
 pub returns-in_err-made-clause-asks : goal.returns-in_err-made-clause-asks
-returns-in_err-made-clause-asks g c = begins_none (pass_on c.args.btf.now (under c.args.request.now.policy (layout_of c.args.request.now.sections.now c.args.request.now.symbols.now)) c.args.resolver.now.answers) c.requires.unasked
+returns-in_err-made-clause-asks g c = begins_none (pass_on c.args.btf.now (given_under c.args.request.now.policy (layout_of c.args.request.now.sections.now c.args.request.now.symbols.now)) c.args.resolver.now.answers) c.requires.unasked
 
 pub loop-id-init : goal.loop-id-init
 loop-id-init g c =
     let t : Table = c.args.btf.now in
     let ts : List BtfType = c.as_slice-count.result.now in
-    let p : Pass = pass_on t (under c.args.request.now.policy (layout_of c.args.request.now.sections.now c.args.request.now.symbols.now)) c.args.resolver.now.answers in
+    let p : Pass = pass_on t (given_under c.args.request.now.policy (layout_of c.args.request.now.sections.now c.args.request.now.symbols.now)) c.args.resolver.now.answers in
     let none : c.args.resolver.now.answers ≡ [] = c.requires.unasked in
     let first = c.as_slice-count.ensures.first in
     let some : 0 < length ts = omega (arith, ap length c.as_slice-count.ensures.records, ap length first.1, length-map ts record_of) in
@@ -51,7 +51,7 @@ loop-id-init g c =
 
 module _ (g : Over) (c : After-rewrite_type g) where
   abbrev given : Given
-  given = under c.args.request.now.policy (layout_of c.args.request.now.sections.now c.args.request.now.symbols.now)
+  given = given_under c.args.request.now.policy (layout_of c.args.request.now.sections.now c.args.request.now.symbols.now)
 
   abbrev before : Pass
   before = pass_on c.args.btf.now given c.loop-id.resolver.answers
@@ -93,7 +93,7 @@ pub returns-in_err-outcome-clause-passes : goal.returns-in_err-outcome-clause-pa
 returns-in_err-outcome-clause-passes g c =
     let s = (goal.at.returns-in_err-outcome-clause-passes g c).After-rewrite_type in
     let id : ℕ = c.loop-id.id in
-    let at : IsAt (before g s) id = c.loop-id.invariant.2 in
+    let at : IsPassAt (before g s) id = c.loop-id.invariant.2 in
     handed_on (λ c. c) c.in_err-outcome.field-0.0 c.from_residual-in_err-outcome.result (Passes (after g s)) c.from_residual-in_err-outcome.ensures.1
     (IfSome_then _ (c.in_err-outcome.ensures.steps (given g s) id refl (comes g s)) (λ refusal h. refused_at (before g s) id c.rewrite_type.new.resolver.answers refusal (is_below g s) at h.0 h.1))
 
@@ -107,7 +107,7 @@ pub loop-id-preserved : goal.loop-id-preserved
 loop-id-preserved g c =
     let s = (goal.at.loop-id-preserved g c).After-rewrite_type in
     let id : ℕ = c.loop-id.id in
-    let at : IsAt (before g s) id = c.loop-id.invariant.2 in
+    let at : IsPassAt (before g s) id = c.loop-id.invariant.2 in
     let b : BtfType = c.type_at-btf_type.result.now in
     let low : 0 < id = omega (arith, c.loop-id.auto.id) in
     let o : Outcome = c.in_ok-outcome.outcome in
@@ -126,25 +126,25 @@ loop-id-preserved g c =
       filler = c.keep.ensures.filler;
     }) in
     let one_on : suc id ≡ id + 1 = omega arith in
-    (c.rewrite_type.ensures.callable, c.rewrite_type.ensures.called c.args.resolver.now.predicate c.loop-id.invariant.1, subst (IsAt (after g s)) one_on next.0, subst (λ n. IsMade (after g s) n c.keep.new.self c.keep.new.denied.items) one_on next.1, c.in_ok-outcome.ensures.read)
+    (c.rewrite_type.ensures.callable, c.rewrite_type.ensures.called c.args.resolver.now.predicate c.loop-id.invariant.1, subst (IsPassAt (after g s)) one_on next.0, subst (λ n. IsMade (after g s) n c.keep.new.self c.keep.new.denied.items) one_on next.1, c.in_ok-outcome.ensures.read)
 
 pub returns-clause-asks : goal.returns-clause-asks
 returns-clause-asks g c =
     let t : Table = c.args.btf.now in
     let ts : List BtfType = c.as_slice-count.result.now in
-    let p : Pass = pass_on t (under c.args.request.now.policy (layout_of c.args.request.now.sections.now c.args.request.now.symbols.now)) c.loop-id.resolver.answers in
+    let p : Pass = pass_on t (given_under c.args.request.now.policy (layout_of c.args.request.now.sections.now c.args.request.now.symbols.now)) c.loop-id.resolver.answers in
     let id : ℕ = c.loop-id.id in
-    let at : IsAt p id = c.loop-id.invariant.2 in
+    let at : IsPassAt p id = c.loop-id.invariant.2 in
     let end : id ≡ length t.records = omega (arith, c.loop-id-test.false, c.loop-id.auto.id-end, ap length c.as_slice-count.ensures.first.1, ap length c.as_slice-count.ensures.records, length-map ts record_of) in
-    begins_all p (subst (IsAt p) end at)
+    begins_all p (subst (IsPassAt p) end at)
 
 pub returns-clause-passes : goal.returns-clause-passes
 returns-clause-passes g c =
     let t : Table = c.args.btf.now in
     let ts : List BtfType = c.as_slice-count.result.now in
-    let p : Pass = pass_on t (under c.args.request.now.policy (layout_of c.args.request.now.sections.now c.args.request.now.symbols.now)) c.loop-id.resolver.answers in
+    let p : Pass = pass_on t (given_under c.args.request.now.policy (layout_of c.args.request.now.sections.now c.args.request.now.symbols.now)) c.loop-id.resolver.answers in
     let id : ℕ = c.loop-id.id in
-    let at : IsAt p id = c.loop-id.invariant.2 in
+    let at : IsPassAt p id = c.loop-id.invariant.2 in
     let made : IsMade p id c.loop-id.made c.loop-id.denied.items = c.loop-id.invariant.3 in
     let end : id ≡ length t.records = omega (arith, c.loop-id-test.false, c.loop-id.auto.id-end, ap length c.as_slice-count.ensures.first.1, ap length c.as_slice-count.ensures.records, length-map ts record_of) in
     let many : length t.fallbacks ≡ length t.records = omega (arith, ap length c.as_slice-count.ensures.records, ap length c.as_slice-count.ensures.fallbacks, length-map ts record_of, length-map ts fallback_of) in

@@ -5,7 +5,7 @@ use Rattle.btf_model.specs.Record as kinds
 use Rattle.btf_model.specs.Refusal.{Refusal}
 use Rattle.btf_model.proofs.Comparisons.{same_ok}
 use Rattle.btf_records.specs.BtfType.{record_of, type_kind}
-use Rattle.btf_table.specs.KsymsStep.{becomes, laid_out_anew}
+use Rattle.btf_table.specs.KsymsStep.{step_record, laid_out_anew}
 use Rattle.btf_table.proofs.KsymsSteps.{section_becomes}
 use Rattle.btf_table.proofs.sanitize.ksyms.Step.new_type.Goals as goal
 
@@ -18,5 +18,5 @@ returns-in_ok-laid_out-in-DataSec-clause-words c = λ ids step.
     let at : slice_get t.records c.args.id ≡ Some r = c.requires ∙ ap (λ (q : Record). Some q) is_r in
     ap (λ (q : Record). Ok q) (
     same_ok {E = Refusal} c.in_ok-laid_out-in-DataSec.field-0 (laid_out_anew t ids.placeholder_id r) (c.in_ok-laid_out-in-DataSec.ensures.words ids.placeholder_id step.target)
-    ∙ sym (section_becomes t ids c.args.id r kind at (c.if-id-self.true ∙ step.datasec)) ∙ ap (becomes t ids c.args.id) (sym is_r)
+    ∙ sym (section_becomes t ids c.args.id r kind at (c.if-id-self.true ∙ step.datasec)) ∙ ap (step_record t ids c.args.id) (sym is_r)
     )

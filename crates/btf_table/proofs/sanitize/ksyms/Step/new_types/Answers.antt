@@ -8,7 +8,7 @@ use Rattle.btf_model.specs.Refusal.{Refusal}
 use Rattle.btf_model.proofs.Comparisons.{same_ok}
 use Rattle.btf_records.specs.BtfType.{record_of}
 use Rattle.btf_records.specs.declared.btf_type.BtfType.{BtfType}
-use Rattle.btf_table.specs.KsymsStep.{becomes, IsLike, AreStepped}
+use Rattle.btf_table.specs.KsymsStep.{step_record, IsLike, AreStepped}
 use Rattle.btf_table.proofs.KsymsSteps.{kept_next, changed_next, stepped_all}
 use Rattle.btf_table.proofs.sanitize.ksyms.Step.new_types.Goals.{in-Some+in_ok-push, in_default}
 use Rattle.btf_table.proofs.sanitize.ksyms.Step.new_types.Goals as goal
@@ -19,7 +19,7 @@ loop-id-preserved c = λ ids step.
     let ts : _ = c.args.types.now in
     let i : _ = c.loop-id.id in
     let b : BtfType = c.index-types-id.result in
-    let words : record_of (unwrap_or c.in_ok-new_type.field-0 b) ≡ becomes t ids i (record_of b) = same_ok {E = Refusal} (record_of (unwrap_or c.in_ok-new_type.field-0 b)) (becomes t ids i (record_of b)) (c.in_ok-new_type.ensures.words ids step) in
+    let words : record_of (unwrap_or c.in_ok-new_type.field-0 b) ≡ step_record t ids i (record_of b) = same_ok {E = Refusal} (record_of (unwrap_or c.in_ok-new_type.field-0 b)) (step_record t ids i (record_of b)) (c.in_ok-new_type.ensures.words ids step) in
     elim c.match-branch-2.branch [
       | in-Some+in_ok-push w ↦
           subst (λ cs. AreStepped t ids (i + 1) cs) (sym (ap (λ v. v.items) w.new_types-is ∙ w.in_ok-push.ensures.items))

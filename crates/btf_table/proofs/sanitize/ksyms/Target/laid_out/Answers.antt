@@ -2,7 +2,7 @@ use Rattle.std.proofs.Common.{◌≡◌, ℕ, Option, refl, ◌+◌, ◌*◌, Li
 use Rattle.btf_model.specs.Record.{Record, kind_of, vlen}
 use Rattle.btf_model.specs.Refusal.{Refusal}
 use Rattle.btf_model.proofs.Comparisons.{same_ok}
-use Rattle.btf_table.specs.KsymsStep.{target_of, laid_out_anew}
+use Rattle.btf_table.specs.KsymsStep.{symbol_target, laid_out_anew}
 use Rattle.btf_table.proofs.KsymsItems.{laid_next, laid_all, laid_same_len}
 use Rattle.btf_table.proofs.sanitize.ksyms.Target.laid_out.Goals as goal
 
@@ -24,7 +24,7 @@ loop-index-preserved c =
           ∙ ap (λ (tail : List ℕ). record c.args.data_sec.now { tail = tail }) (laid_next c.args.btf.now placeholder c.entries-entry-items.result.now i new c.loop-index-test.true (c.entry_type.ensures placeholder is)),
     )
 
-laid : (c : goal.After-set_size) (placeholder : Option ℕ) → c.args.self.now ≡ target_of c.args.btf.now placeholder → c.set_size.new.self ≡ laid_out_anew c.args.btf.now placeholder c.args.data_sec.now
+laid : (c : goal.After-set_size) (placeholder : Option ℕ) → c.args.self.now ≡ symbol_target c.args.btf.now placeholder → c.set_size.new.self ≡ laid_out_anew c.args.btf.now placeholder c.args.data_sec.now
 laid c placeholder is =
     c.set_size.ensures ∙ ap (λ (r : Record). record r { third = 4 * length c.entries.result.now }) (c.loop-index.invariant.1 placeholder is)
     ∙ laid_all c.args.btf.now placeholder c.args.data_sec.now c.loop-index.index c.entries-entry-items.result.now c.entries.result.now c.entries-entry-items.ensures.words c.entries.ensures.words c.loop-index-test.false
