@@ -151,7 +151,7 @@ fn write_base<W: Write>(
         BtfType::Unknown => draft.out.write_str("void")?,
         BtfType::Int(t) => write_number_type(draft, t.name_offset())?,
         BtfType::Float(t) => write_number_type(draft, t.name_offset())?,
-        BtfType::Typedef(_) => draft.write_typedef_name(type_id)?,
+        BtfType::Typedef(_) => draft.write_type_name(type_id)?,
         BtfType::Enum(_) | BtfType::Enum64(_) if base.btf_type.name_offset() == 0 => {
             write_enumeration(draft, type_id, base.btf_type, level)?;
         }
@@ -175,7 +175,7 @@ pub fn write_tagged<W: Write>(
 ) -> Result<(), TextError> {
     draft.out.write_str(keyword(btf_type))?;
     draft.out.write_str(" ")?;
-    draft.write_tag(type_id)
+    draft.write_type_name(type_id)
 }
 
 /// Writes the chain of a draft around what is declared. What comes after the name becomes tasks.
@@ -299,6 +299,6 @@ fn write_label<W: Write>(
     }
     match label {
         Label::Item(name_offset) => draft.write_name(name_offset),
-        Label::Typedef(type_id) => draft.write_typedef_name(type_id),
+        Label::Typedef(type_id) => draft.write_type_name(type_id),
     }
 }

@@ -5,7 +5,6 @@ use crate::header::declaration::write_tagged;
 use crate::header::draft::{ARGUMENT_LIST, Draft};
 use crate::header::enumeration::write_enumeration;
 use crate::header::members::begin_members;
-use crate::header::names::Space;
 use crate::header::task::{Declaration, Label, Task, write_tasks};
 use crate::word::text_at;
 use btf_records::BtfType;
@@ -48,7 +47,7 @@ pub fn write_alias<W: Write>(
 ) -> Result<(), TextError> {
     let name_offset = btf_type.name_offset();
     if name_offset != 0 {
-        draft.names.count_type(draft.table, Space::Tags, type_id)?;
+        draft.names.number_of(draft.table, type_id)?;
     }
     for (name, text) in ALIASES {
         if has_name(draft, name_offset, name)? {
@@ -78,9 +77,7 @@ pub fn write_typedef<W: Write>(draft: &mut Draft<'_, W>, type_id: u32) -> Result
         return Ok(());
     }
     if target == 0 && has_name(draft, name_offset, GNU_ARGUMENT_LIST)? {
-        draft
-            .names
-            .count_type(draft.table, Space::Identifiers, type_id)?;
+        draft.names.number_of(draft.table, type_id)?;
         writeln!(draft.out, "typedef {ARGUMENT_LIST} {GNU_ARGUMENT_LIST};\n")?;
         return Ok(());
     }

@@ -1,7 +1,7 @@
 //! The output of a header, and the state from declaration to declaration.
 
 use crate::error::TextError;
-use crate::header::names::{Names, Space};
+use crate::header::names::Names;
 use crate::header::task::Task;
 use btf_layout::Alignments;
 use btf_plain::{BtfError, BtfKind};
@@ -128,16 +128,9 @@ impl<'a, W: Write> Draft<'a, W> {
         Ok(())
     }
 
-    /// Writes the name of a type after `struct`, `union` or `enum`.
-    pub fn write_tag(&mut self, type_id: u32) -> Result<(), TextError> {
-        self.names
-            .write_type(self.table, Space::Tags, type_id, &mut *self.out)
-    }
-
-    /// Writes the name of a TYPEDEF.
-    pub fn write_typedef_name(&mut self, type_id: u32) -> Result<(), TextError> {
-        self.names
-            .write_type(self.table, Space::Identifiers, type_id, &mut *self.out)
+    /// Writes the name of a type as an identifier, with its number.
+    pub fn write_type_name(&mut self, type_id: u32) -> Result<(), TextError> {
+        self.names.write_type(self.table, type_id, &mut *self.out)
     }
 
     /// Writes the name of a member or parameter as an identifier.

@@ -15,7 +15,7 @@ pub fn write_enumeration<W: Write>(
     draft.out.write_str("enum")?;
     if btf_type.name_offset() != 0 {
         draft.out.write_str(" ")?;
-        draft.write_tag(type_id)?;
+        draft.write_type_name(type_id)?;
     }
     match btf_type {
         BtfType::Enum(t) => write_variants(draft, t, level),

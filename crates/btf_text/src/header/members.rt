@@ -40,7 +40,7 @@ pub fn begin_members<'a, W: Write>(
     draft.out.write_str(keyword(btf_type))?;
     if btf_type.name_offset() != 0 {
         draft.out.write_str(" ")?;
-        draft.write_tag(type_id)?;
+        draft.write_type_name(type_id)?;
     }
     draft.out.write_str(" {")?;
     let is_packed = is_packed(draft, &group);

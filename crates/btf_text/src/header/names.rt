@@ -1,38 +1,93 @@
-//! The names of types and values, each written once: a further type of a name has a number after it.
+//! The names of types and values. Each is written once: a further type of a name has a number after it.
 
 use crate::error::TextError;
 use crate::header::identifier::{add_escaped, is_identifier};
 use crate::word::text_at;
+use btf_records::BtfType;
 use btf_table::{Btf, type_count};
 use std::alloc::{AllocError, Global};
 use std::collections::BTreeMap;
 use std::fmt::Write;
 
-/// A name space of C (C11, 6.2.3).
+/// What a name is the name of.
+#[derive(Clone, Copy, PartialEq, Eq)]
+enum Tag {
+    Struct,
+    Union,
+    Enum,
+    /// A number, a TYPEDEF, or a value of an enumeration.
+    Other,
+}
+
+/// How a type uses its name.
 #[derive(Clone, Copy)]
-pub enum Space {
-    /// The names after `struct`, `union` and `enum`.
-    Tags,
-    /// The names of typedefs and of the values of enumerations.
-    Identifiers,
+struct Naming {
+    tag: Tag,
+    /// Whether the type is only declared, so that it can have the name of a type that is defined.
+    is_forward: bool,
+}
+
+/// The use of a name.
+#[derive(Clone, Copy)]
+struct Use {
+    /// The tag of the type that has the name without a number.
+    tag: Tag,
+    /// Whether that type is defined.
+    is_defined: bool,
+    /// The last number; 1 is the name without a number.
+    last: u32,
 }
 
 /// The names that were written.
 #[derive(Drop)]
 pub struct Names {
     alloc: Global,
-    tags: Counts,
-    identifiers: Counts,
+    /// The names after `struct`, `union` and `enum`.
+    tags: Uses,
+    /// The names of TYPEDEFs and of the values of enumerations.
+    identifiers: Uses,
     /// For each type, the number after its name, from 1 on; 0 if the type was not named.
     numbers: Vec<u32>,
     /// The spelling of a name that is no identifier.
     escaped: String,
 }
 
-/// How often each name of a name space was written.
+/// The used names of a name space of C (C11, 6.2.3).
 #[derive(Drop)]
-struct Counts {
-    counts: BTreeMap<String, u32>,
+struct Uses {
+    uses: BTreeMap<String, Use>,
+}
+
+/// How a type uses its name.
+fn naming_of(btf_type: &BtfType) -> Naming {
+    match btf_type {
+        BtfType::Struct(_) => Naming::defined(Tag::Struct),
+        BtfType::Union(_) => Naming::defined(Tag::Union),
+        BtfType::Enum(t) => Naming {
+            tag: Tag::Enum,
+            is_forward: t.variants().is_empty(),
+        },
+        BtfType::Enum64(_) => Naming::defined(Tag::Enum),
+        BtfType::Fwd(t) => Naming {
+            tag: if t.is_union() {
+                Tag::Union
+            } else {
+                Tag::Struct
+            },
+            is_forward: true,
+        },
+        _ => Naming::defined(Tag::Other),
+    }
+}
+
+impl Naming {
+    /// The naming of a type that is defined.
+    fn defined(tag: Tag) -> Naming {
+        Naming {
+            tag,
+            is_forward: false,
+        }
+    }
 }
 
 impl Names {
@@ -40,8 +95,8 @@ impl Names {
     pub fn new(alloc: Global, table: &Btf) -> Result<Names, AllocError> {
         Ok(Names {
             alloc,
-            tags: Counts::new(alloc),
-            identifiers: Counts::new(alloc),
+            tags: Uses::new(alloc),
+            identifiers: Uses::new(alloc),
             numbers: vec![in alloc; 0; type_count(table) as usize]?,
             escaped: String::new(alloc),
         })
@@ -52,39 +107,29 @@ impl Names {
     pub fn write_type<W: Write>(
         &mut self,
         table: &Btf,
-        space: Space,
         type_id: u32,
         out: &mut W,
     ) -> Result<(), TextError> {
-        let known = self.number_of(type_id);
-        let number = if known > 0 {
-            known
-        } else {
-            self.count_type(table, space, type_id)?
-        };
+        let number = self.number_of(table, type_id)?;
         let offset = table.type_by_id(type_id)?.name_offset();
         self.write_plain(table, offset, out)?;
         write_number(number, out)
     }
 
-    /// Counts the name of a type that has no number, and returns the number.
-    pub fn count_type(
-        &mut self,
-        table: &Btf,
-        space: Space,
-        type_id: u32,
-    ) -> Result<u32, TextError> {
-        let offset = table.type_by_id(type_id)?.name_offset();
-        let number = self.count(table, space, offset)?;
+    /// The number of a type, which gets one if it has none.
+    pub fn number_of(&mut self, table: &Btf, type_id: u32) -> Result<u32, TextError> {
+        match self.numbers.get(type_id as usize) {
+            Some(number) if *number > 0 => return Ok(*number),
+            _ => {}
+        }
+        let btf_type = table.type_by_id(type_id)?;
+        let naming = naming_of(btf_type);
+        let is_tag = !matches!(btf_type, BtfType::Typedef(_));
+        let number = self.count(table, btf_type.name_offset(), naming, is_tag)?;
         if let Some(known) = self.numbers.get_mut(type_id as usize) {
             *known = number;
         }
         Ok(number)
-    }
-
-    /// The number of a type; 0 if it was not named.
-    pub fn number_of(&self, type_id: u32) -> u32 {
-        self.numbers.get(type_id as usize).copied().unwrap_or(0)
     }
 
     /// Writes the name of a value of an enumeration, with a number if the name was written before.
@@ -94,7 +139,8 @@ impl Names {
         name_offset: u32,
         out: &mut W,
     ) -> Result<(), TextError> {
-        let number = self.count(table, Space::Identifiers, name_offset)?;
+        let naming = Naming::defined(Tag::Other);
+        let number = self.count(table, name_offset, naming, false)?;
         self.write_plain(table, name_offset, out)?;
         write_number(number, out)
     }
@@ -113,10 +159,10 @@ impl Names {
         };
         if is_identifier(text) {
             out.write_str(text)?;
-            return Ok(());
+        } else {
+            self.escape(text)?;
+            out.write_str(self.escaped.as_str())?;
         }
-        self.escape(text)?;
-        out.write_str(self.escaped.as_str())?;
         Ok(())
     }
 
@@ -126,44 +172,88 @@ impl Names {
         add_escaped(&mut self.escaped, text)
     }
 
-    /// Counts the name at a string offset, and returns its number.
-    fn count(&mut self, table: &Btf, space: Space, name_offset: u32) -> Result<u32, TextError> {
+    /// Counts a use of the name at a string offset, and returns its number. A tag is a name after `struct`, `union` or
+    /// `enum`.
+    fn count(
+        &mut self,
+        table: &Btf,
+        name_offset: u32,
+        naming: Naming,
+        is_tag: bool,
+    ) -> Result<u32, TextError> {
         let read = text_at(table, name_offset)?;
         let text = match &read {
             Some(text) => text.as_str(),
             None => "",
         };
-        if !is_identifier(text) {
+        let is_plain = is_identifier(text);
+        if !is_plain {
             self.escape(text)?;
         }
-        let counts = match space {
-            Space::Tags => &mut self.tags,
-            Space::Identifiers => &mut self.identifiers,
-        };
-        if is_identifier(text) {
-            counts.count(self.alloc, text)
+        let uses = if is_tag {
+            &mut self.tags
         } else {
-            counts.count(self.alloc, self.escaped.as_str())
-        }
+            &mut self.identifiers
+        };
+        let name = if is_plain {
+            text
+        } else {
+            self.escaped.as_str()
+        };
+        uses.count(self.alloc, name, naming)
     }
 }
 
-impl Counts {
+impl Uses {
     /// No names.
-    fn new(alloc: Global) -> Counts {
-        Counts {
-            counts: BTreeMap::new(alloc),
+    fn new(alloc: Global) -> Uses {
+        Uses {
+            uses: BTreeMap::new(alloc),
         }
     }
 
-    /// Counts a name, and returns its number.
-    fn count(&mut self, alloc: Global, name: &str) -> Result<u32, TextError> {
-        if let Some(count) = self.counts.get_mut(name) {
-            *count = count.saturating_add(1);
-            return Ok(*count);
+    /// Counts a use of a name, and returns its number. A type that is only declared has the same number as the first one
+    /// of its tag.
+    fn count(&mut self, alloc: Global, name: &str, naming: Naming) -> Result<u32, TextError> {
+        let is_defined = !naming.is_forward;
+        let Some(known) = self.uses.get_mut(name) else {
+            let new = Use {
+                tag: naming.tag,
+                is_defined,
+                last: 1,
+            };
+            self.uses.insert(String::from_str(alloc, name)?, new)?;
+            return Ok(1);
+        };
+        if known.tag == naming.tag && !(is_defined && known.is_defined) {
+            known.is_defined = known.is_defined || is_defined;
+            return Ok(1);
         }
-        self.counts.insert(String::from_str(alloc, name)?, 1)?;
-        Ok(1)
+        let last = known.last;
+        self.count_further(alloc, name, last)
+    }
+
+    /// Counts a further use of a name whose last number is this one, and returns its number. The name with the number is
+    /// no other name.
+    fn count_further(&mut self, alloc: Global, name: &str, last: u32) -> Result<u32, TextError> {
+        let mut number = last;
+        for _ in 0..self.uses.len().saturating_add(1) {
+            number = number.saturating_add(1);
+            let word = format!(in alloc; "{name}___{number}")?;
+            if !self.uses.contains_key(word.as_str()) {
+                let new = Use {
+                    tag: Tag::Other,
+                    is_defined: true,
+                    last: 1,
+                };
+                self.uses.insert(word, new)?;
+                break;
+            }
+        }
+        if let Some(known) = self.uses.get_mut(name) {
+            known.last = number;
+        }
+        Ok(number)
     }
 }
 
