@@ -2,7 +2,7 @@
 
 use crate::error::TextError;
 use crate::header::draft::Draft;
-use crate::header::padding::{Gap, write_padding};
+use crate::header::padding::{Gap, Next, write_padding};
 use crate::header::task::{Declaration, Label, Task};
 use crate::layout::{Group, keyword};
 use btf_plain::BtfMember;
@@ -65,14 +65,13 @@ fn is_packed<W: Write>(draft: &Draft<'_, W>, group: &Group<'_>) -> bool {
     let mut largest = 1;
     for member in group.members {
         let alignment = draft.alignment_of(member.btf_type).max(1);
-        if group.bit_field_size(member) == 0
-            && group.bit_offset(member) % alignment.saturating_mul(8) != 0
-        {
+        let bits = alignment.saturating_mul(8).max(1);
+        if group.bit_field_size(member) == 0 && group.bit_offset(member) % bits != 0 {
             return true;
         }
         largest = alignment.max(largest);
     }
-    u64::from(group.size) % largest != 0
+    u64::from(group.size) % largest.max(1) != 0
 }
 
 /// Writes the next member of a STRUCT or UNION, or the brace after the last one.
@@ -86,28 +85,43 @@ pub fn write_next_member<'a, W: Write>(
     }
 }
 
+/// The gap before a member.
+fn gap_before<W: Write>(draft: &Draft<'_, W>, state: &Members<'_>, member: &BtfMember) -> Gap {
+    let bits = state.group.bit_field_size(member);
+    let alignment = if state.is_packed {
+        1
+    } else {
+        draft.alignment_of(member.btf_type)
+    };
+    let next = if bits > 0 {
+        Next::BitField {
+            bits,
+            unit: draft.bits_of(member.btf_type),
+        }
+    } else {
+        Next::Aligned(alignment)
+    };
+    Gap {
+        from: state.end,
+        to: state.group.bit_offset(member),
+        next,
+        alignment,
+        is_in_bit_fields: state.is_after_bit_field && bits > 0,
+        is_packed: state.is_packed,
+    }
+}
+
 /// Writes a member.
 fn write_member<'a, W: Write>(
     draft: &mut Draft<'a, W>,
     state: &Members<'a>,
     member: &BtfMember,
 ) -> Result<(), TextError> {
-    let group = &state.group;
-    let (bit, bits) = (group.bit_offset(member), group.bit_field_size(member));
     let level = state.level.saturating_add(1);
-    let alignment = if state.is_packed {
-        1
-    } else {
-        draft.alignment_of(member.btf_type)
-    };
-    let gap = Gap {
-        from: state.end,
-        to: bit,
-        alignment,
-        is_in_bit_fields: state.is_after_bit_field && bits > 0,
-    };
+    let gap = gap_before(draft, state, member);
     write_padding(draft, &gap, level)?;
     draft.begin_line(level)?;
+    let bits = state.group.bit_field_size(member);
     let width = if bits > 0 {
         bits
     } else {
@@ -115,7 +129,7 @@ fn write_member<'a, W: Write>(
     };
     draft.tasks.push(Task::Members(Members {
         index: state.index.saturating_add(1),
-        end: bit.saturating_add(width),
+        end: gap.to.saturating_add(width),
         is_after_bit_field: bits > 0,
         ..*state
     }))?;
@@ -144,8 +158,10 @@ fn end_members<W: Write>(draft: &mut Draft<'_, W>, state: &Members<'_>) -> Resul
         let gap = Gap {
             from: state.end,
             to: group.bits(),
+            next: Next::Aligned(state.alignment),
             alignment: state.alignment,
             is_in_bit_fields: false,
+            is_packed: state.is_packed,
         };
         write_padding(draft, &gap, state.level.saturating_add(1))?;
     }

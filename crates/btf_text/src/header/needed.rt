@@ -54,8 +54,8 @@ impl Needed {
     /// Whether the declaration of a type is needed.
     pub fn has(&self, type_id: u32) -> bool {
         let id = type_id as usize;
-        let is_flagged = |flags: &Vec<bool>| flags.get(id).copied().unwrap_or(false);
-        is_flagged(&self.by_value) || is_flagged(&self.behind_pointer)
+        let by_value = self.by_value.get(id).copied().unwrap_or(false);
+        by_value || self.behind_pointer.get(id).copied().unwrap_or(false)
     }
 
     /// The search comes to a type. A forward declaration is enough for a STRUCT or UNION with a name behind a pointer.

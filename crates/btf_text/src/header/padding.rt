@@ -32,17 +32,41 @@ const FILLERS: [Filler; 4] = [
     },
 ];
 
+/// What comes after a gap.
+#[derive(Clone, Copy)]
+pub enum Next {
+    /// A member of this alignment in bytes, or the end of a structure of this alignment.
+    Aligned(u64),
+    /// A bit-field of this number of bits, in an integer of `unit` bits.
+    BitField { bits: u64, unit: u64 },
+}
+
 /// A gap before a member, or before the end of a structure.
 #[derive(Clone, Copy)]
 pub struct Gap {
     /// The first bit after the last member.
     pub from: u64,
-    /// The first bit of the next member.
+    /// The first bit of what comes next.
     pub to: u64,
-    /// The alignment of the next member, in bytes.
+    pub next: Next,
+    /// The alignment of what comes next, in bytes.
     pub alignment: u64,
     /// Whether the last member and the next one are bit-fields.
     pub is_in_bit_fields: bool,
+    /// Whether the structure is packed.
+    pub is_packed: bool,
+}
+
+/// The bit-fields that `bpftool` writes in a gap.
+#[derive(Clone, Copy)]
+struct Filling {
+    filler: Filler,
+    /// The bits of a first bit-field, up to a boundary of the filler; 0 for a mark of the boundary.
+    first: Option<u64>,
+    /// How many whole fillers follow.
+    count: u64,
+    /// The bits of the last bit-field; 0 if there is none.
+    rest: u64,
 }
 
 /// The least multiple of a number of bits from a bit on.
@@ -72,29 +96,85 @@ fn smallest(bits: u64) -> Filler {
 }
 
 impl Gap {
-    /// Whether the boundary of a filler in the gap has to be written: the compiler would not align the next member to
-    /// it, or would place the next filler before it.
-    fn needs_boundary(&self, boundary: u64) -> bool {
+    /// Whether `bpftool` writes the boundary of a filler in the gap.
+    fn has_boundary(&self, boundary: u64) -> bool {
         if boundary <= self.from || boundary > self.to {
             return false;
         }
         let natural = round_up(self.from, self.alignment.saturating_mul(8));
-        self.is_in_bit_fields
-            || boundary == self.to && natural != boundary
-            || boundary != self.to && self.to - boundary <= boundary - self.from
+        let (before, after) = (boundary - self.from, self.to - boundary);
+        self.is_in_bit_fields || after == 0 && natural != boundary || after != 0 && after <= before
     }
 
-    /// The bit up to which the compiler or the written boundary fills the gap.
-    fn filled_to(&self, boundary: u64) -> u64 {
-        if boundary <= self.to {
+    /// The bit-fields that `bpftool` writes in the gap.
+    fn filling(&self) -> Filling {
+        let filler = filler_of(self);
+        let boundary = round_up(self.from, filler.bits);
+        let first = match self.has_boundary(boundary) {
+            true if self.is_in_bit_fields => Some(boundary.saturating_sub(self.from)),
+            true => Some(0),
+            false => None,
+        };
+        let start = if boundary <= self.to {
             boundary
         } else {
             self.from
+        };
+        let bits = self.to.saturating_sub(start);
+        let unit = filler.bits.max(1);
+        Filling {
+            filler,
+            first,
+            count: bits / unit,
+            rest: bits % unit,
         }
+    }
+
+    /// The first bit of a bit-field after a bit: it is in one integer of its type, unless the structure is packed.
+    fn place_bit_field(&self, from: u64, bits: u64, unit: u64) -> u64 {
+        let next = round_up(from, unit);
+        if self.is_packed || from.saturating_add(bits) <= next || from == next {
+            from
+        } else {
+            next
+        }
+    }
+
+    /// The first bit of what comes next after a bit, as a compiler places it.
+    fn place_next(&self, from: u64) -> u64 {
+        match self.next {
+            Next::Aligned(_) if self.is_packed => round_up(from, 8),
+            Next::Aligned(alignment) => round_up(from, alignment.saturating_mul(8)),
+            Next::BitField { bits, unit } => self.place_bit_field(from, bits, unit),
+        }
+    }
+
+    /// The bit after a filling, as a compiler places it.
+    fn end_of(&self, filling: &Filling) -> u64 {
+        let unit = filling.filler.bits;
+        let mut end = match filling.first {
+            Some(0) => round_up(self.from, unit),
+            Some(bits) => self
+                .place_bit_field(self.from, bits, unit)
+                .saturating_add(bits),
+            None => self.from,
+        };
+        if filling.count > 0 {
+            let bits = filling.count.saturating_mul(unit);
+            end = self.place_bit_field(end, unit, unit).saturating_add(bits);
+        }
+        if filling.rest > 0 {
+            let last = smallest(filling.rest).bits;
+            end = self
+                .place_bit_field(end, filling.rest, last)
+                .saturating_add(filling.rest);
+        }
+        end
     }
 }
 
-/// Writes the bit-fields that fill a gap.
+/// Writes the bit-fields that fill a gap: those that `bpftool` writes, if a compiler then places what comes next where
+/// it is, and otherwise bit-fields that end at every boundary.
 pub fn write_padding<W: Write>(
     draft: &mut Draft<'_, W>,
     gap: &Gap,
@@ -103,35 +183,61 @@ pub fn write_padding<W: Write>(
     if gap.from >= gap.to {
         return Ok(());
     }
-    let filler = filler_of(gap);
-    let boundary = round_up(gap.from, filler.bits);
-    if gap.needs_boundary(boundary) {
-        let bits = if gap.is_in_bit_fields {
-            boundary.saturating_sub(gap.from)
-        } else {
-            0
-        };
-        write_filler(draft, filler, bits, level)?;
+    let filling = gap.filling();
+    if gap.place_next(gap.end_of(&filling)) == gap.to {
+        write_filling(draft, &filling, level)
+    } else {
+        write_pieces(draft, gap, level)
     }
-    let rest = gap.to.saturating_sub(gap.filled_to(boundary));
-    write_fillers(draft, filler, rest, level)
 }
 
-/// Writes bit-fields of a number of bits together: as many of a filler as there are, and one for the rest.
-fn write_fillers<W: Write>(
+/// Writes a filling.
+fn write_filling<W: Write>(
     draft: &mut Draft<'_, W>,
-    filler: Filler,
-    bits: u64,
+    filling: &Filling,
     level: usize,
 ) -> Result<(), TextError> {
-    let unit = filler.bits.max(1);
-    for _ in 0..bits / unit {
-        draft.count_step()?;
-        write_filler(draft, filler, unit, level)?;
+    let filler = filling.filler;
+    if let Some(bits) = filling.first {
+        write_filler(draft, filler, bits, level)?;
     }
-    let rest = bits % unit;
-    if rest > 0 {
-        write_filler(draft, smallest(rest), rest, level)?;
+    for _ in 0..filling.count {
+        draft.count_step()?;
+        write_filler(draft, filler, filler.bits, level)?;
+    }
+    if filling.rest > 0 {
+        write_filler(draft, smallest(filling.rest), filling.rest, level)?;
+    }
+    Ok(())
+}
+
+/// The next piece of a gap from a bit on, and its number of bits: a whole filler at its boundary, or bits of one byte.
+fn next_piece(from: u64, to: u64) -> (Filler, u64) {
+    let left = to.saturating_sub(from);
+    for filler in FILLERS {
+        if round_up(from, filler.bits) == from && filler.bits <= left {
+            return (filler, filler.bits);
+        }
+    }
+    (FILLERS[3], left.min(8 - from % 8))
+}
+
+/// Writes bit-fields that fill a gap wherever a compiler begins: each is in one byte, or is a whole filler at its
+/// boundary.
+fn write_pieces<W: Write>(
+    draft: &mut Draft<'_, W>,
+    gap: &Gap,
+    level: usize,
+) -> Result<(), TextError> {
+    let mut from = gap.from;
+    for _ in 0..u64::MAX {
+        if from >= gap.to {
+            break;
+        }
+        draft.count_step()?;
+        let (filler, bits) = next_piece(from, gap.to);
+        write_filler(draft, filler, bits, level)?;
+        from = from.saturating_add(bits);
     }
     Ok(())
 }
