@@ -8,7 +8,7 @@ use crate::header::number::write_number_type;
 use crate::header::params::Params;
 use crate::header::task::{Declaration, Label, Task};
 use crate::layout::keyword;
-use crate::word::text_at;
+use crate::word::{text_at, text_or_empty};
 use btf_plain::BtfError;
 use btf_records::BtfType;
 use btf_table::{Btf, WALK_LIMIT};
@@ -268,8 +268,21 @@ fn open_prototype<W: Write>(
 /// Writes the attribute of a tag.
 fn write_type_tag<W: Write>(draft: &mut Draft<'_, W>, name_offset: u32) -> Result<(), TextError> {
     draft.out.write_str(" __attribute__((btf_type_tag(\"")?;
-    draft.write_name(name_offset)?;
+    write_literal(draft, name_offset)?;
     draft.out.write_str("\")))")?;
+    Ok(())
+}
+
+/// Writes the inside of a string literal: a byte that is no printable character, a quote or a backslash is written as
+/// three octal digits.
+fn write_literal<W: Write>(draft: &mut Draft<'_, W>, offset: u32) -> Result<(), TextError> {
+    let read = text_at(draft.table, offset)?;
+    for byte in text_or_empty(&read).as_bytes() {
+        match *byte {
+            b'"' | b'\\' | 0..0x20 | 0x7f.. => write!(draft.out, "\\{byte:03o}")?,
+            _ => draft.out.write_char(char::from(*byte))?,
+        }
+    }
     Ok(())
 }
 

@@ -2,7 +2,7 @@
 
 use crate::error::TextError;
 use crate::header::draft::Draft;
-use crate::header::padding::{Gap, Next, write_padding};
+use crate::header::padding::{Gap, Next, round_up, write_padding};
 use crate::header::task::{Declaration, Label, Task};
 use crate::layout::{Group, keyword};
 use btf_plain::BtfMember;
@@ -15,7 +15,7 @@ pub struct Members<'a> {
     group: Group<'a>,
     /// The index of the next member.
     index: usize,
-    /// The first bit after the last member.
+    /// The first bit after the last member; in a UNION, after the largest one.
     end: u64,
     /// Whether the last member is a bit-field.
     is_after_bit_field: bool,
@@ -43,25 +43,22 @@ pub fn begin_members<'a, W: Write>(
         draft.write_type_name(type_id)?;
     }
     draft.out.write_str(" {")?;
-    let is_packed = is_packed(draft, &group);
-    draft.tasks.push(Task::Members(Members {
+    let members = Members {
         group,
         index: 0,
         end: 0,
         is_after_bit_field: false,
-        is_packed,
+        is_packed: is_packed(draft, &group),
         alignment: draft.alignment_of(type_id),
         level,
-    }))?;
+    };
+    draft.tasks.push(Task::Members(members))?;
     Ok(())
 }
 
-/// Whether a STRUCT has to be packed: a member is at no multiple of its alignment, or the size is no multiple of the
-/// largest alignment.
+/// Whether a STRUCT or UNION has to be packed: a member is at no multiple of its alignment, or the size is no multiple of
+/// the largest alignment.
 fn is_packed<W: Write>(draft: &Draft<'_, W>, group: &Group<'_>) -> bool {
-    if group.is_union {
-        return false;
-    }
     let mut largest = 1;
     for member in group.members {
         let alignment = draft.alignment_of(member.btf_type).max(1);
@@ -127,12 +124,18 @@ fn write_member<'a, W: Write>(
     } else {
         draft.bits_of(member.btf_type)
     };
-    draft.tasks.push(Task::Members(Members {
+    let end = gap.to.saturating_add(width);
+    let next = Members {
         index: state.index.saturating_add(1),
-        end: gap.to.saturating_add(width),
+        end: if state.group.is_union {
+            end.max(state.end)
+        } else {
+            end
+        },
         is_after_bit_field: bits > 0,
         ..*state
-    }))?;
+    };
+    draft.tasks.push(Task::Members(next))?;
     draft.tasks.push(Task::EndMember(bits))?;
     draft.tasks.push(Task::Whole(Declaration {
         type_id: member.btf_type,
@@ -171,6 +174,30 @@ fn end_members<W: Write>(draft: &mut Draft<'_, W>, state: &Members<'_>) -> Resul
     draft.out.write_str("}")?;
     if state.is_packed {
         draft.out.write_str(" __attribute__((packed))")?;
+    }
+    if group.is_union {
+        write_alignment(draft, state)?;
+    }
+    Ok(())
+}
+
+/// Writes the attribute that makes a UNION as large as it is, if its members are smaller: the least alignment that gives
+/// the size. `bpftool` 7.1 leaves the attribute out.
+fn write_alignment<W: Write>(
+    draft: &mut Draft<'_, W>,
+    state: &Members<'_>,
+) -> Result<(), TextError> {
+    let natural = if state.is_packed { 1 } else { state.alignment };
+    let size = state.group.bits();
+    if round_up(state.end, natural.saturating_mul(8)) >= size {
+        return Ok(());
+    }
+    for power in 0..32 {
+        let alignment = 1u64 << power;
+        if round_up(state.end, alignment * 8) == size {
+            write!(draft.out, " __attribute__((aligned({alignment})))")?;
+            break;
+        }
     }
     Ok(())
 }

@@ -2,7 +2,7 @@
 
 use crate::error::TextError;
 use crate::header::identifier::{add_escaped, is_identifier};
-use crate::word::text_at;
+use crate::word::{text_at, text_or_empty};
 use btf_records::BtfType;
 use btf_table::{Btf, type_count};
 use std::alloc::{AllocError, Global};
@@ -153,10 +153,7 @@ impl Names {
         out: &mut W,
     ) -> Result<(), TextError> {
         let read = text_at(table, name_offset)?;
-        let text = match &read {
-            Some(text) => text.as_str(),
-            None => "",
-        };
+        let text = text_or_empty(&read);
         if is_identifier(text) {
             out.write_str(text)?;
         } else {
@@ -182,25 +179,21 @@ impl Names {
         is_tag: bool,
     ) -> Result<u32, TextError> {
         let read = text_at(table, name_offset)?;
-        let text = match &read {
-            Some(text) => text.as_str(),
-            None => "",
-        };
+        let text = text_or_empty(&read);
         let is_plain = is_identifier(text);
         if !is_plain {
             self.escape(text)?;
         }
-        let uses = if is_tag {
-            &mut self.tags
-        } else {
-            &mut self.identifiers
-        };
         let name = if is_plain {
             text
         } else {
             self.escaped.as_str()
         };
-        uses.count(self.alloc, name, naming)
+        if is_tag {
+            self.tags.count(self.alloc, name, naming)
+        } else {
+            self.identifiers.count(self.alloc, name, naming)
+        }
     }
 }
 

@@ -23,6 +23,18 @@ pub struct Needed {
     stack: Vec<Node>,
 }
 
+/// Sets the flag of a type, and returns whether it was not set.
+fn mark(flags: &mut [bool], type_id: u32) -> bool {
+    match flags.get_mut(type_id as usize) {
+        Some(flag) => {
+            let is_new = !*flag;
+            *flag = true;
+            is_new
+        }
+        None => false,
+    }
+}
+
 impl Needed {
     /// No types.
     fn new(alloc: Global, table: &Btf) -> Result<Needed, AllocError> {
@@ -64,15 +76,12 @@ impl Needed {
         if is_behind_pointer && btf_type.is_composite() && btf_type.name_offset() != 0 {
             return Ok(());
         }
-        let flags = if is_behind_pointer {
-            &mut self.behind_pointer
+        let is_new = if is_behind_pointer {
+            mark(&mut self.behind_pointer, type_id)
         } else {
-            &mut self.by_value
+            mark(&mut self.by_value, type_id)
         };
-        if let Some(flag) = flags.get_mut(type_id as usize)
-            && !*flag
-        {
-            *flag = true;
+        if is_new {
             self.stack.push(Node {
                 type_id,
                 is_behind_pointer,

@@ -70,7 +70,7 @@ struct Filling {
 }
 
 /// The least multiple of a number of bits from a bit on.
-fn round_up(bit: u64, bits: u64) -> u64 {
+pub fn round_up(bit: u64, bits: u64) -> u64 {
     let unit = bits.max(1);
     bit.div_ceil(unit).saturating_mul(unit)
 }
