@@ -8,7 +8,7 @@ use Rattle.btf_plain.specs.declared.error.BtfError.TheVariants.{UnknownBtfType, 
 use Rattle.btf_order.specs.declared.progress.Progress.{Progress}
 use Rattle.btf_order.specs.Progress.{is_open}
 
--- An allocation failed; a type uses an id that has no type; or a type needs itself, and no forward declaration is enough.
+-- An allocation failed; a type uses an id that has no type; or a type needs itself, beyond what a forward declaration does.
 abbrev pub IsOrderError : List Record → BtfError → Type 0
 IsOrderError records OutOfMemory = Unit {0}
 IsOrderError records (UnknownBtfType id) = IsUsedAndUnknown records id
