@@ -25,7 +25,7 @@ pub both_right : (a b : Bool) → (a && b) ≡ true → b ≡ true
 both_right true b e = e
 both_right false b e = absurd (true_not_false (sym e))
 
-not_behind : (through : Bool) → (through ≡ true → ⊥) → through ≡ false
+pub not_behind : (through : Bool) → (through ≡ true → ⊥) → through ≡ false
 not_behind true never = absurd (never refl)
 not_behind false never = refl
 

@@ -7,6 +7,8 @@ use Rattle.std.proofs.lemmas.List.Sums.{sum_by-set}
 use Rattle.std.proofs.lemmas.Option.{slice_get_within, get_or_from_slice_get, same_Some}
 use Rattle.btf_model.specs.Record.{Record}
 use Rattle.btf_order_model.specs.Order.{NeedsComplete, IsOrdered, may_be_declared}
+use Rattle.btf_order_model.specs.Uses.{counted}
+use Rattle.btf_order.specs.Shape.{use_of}
 use Rattle.btf_order.specs.declared.progress.Mark.{Mark}
 use Rattle.btf_order.specs.declared.progress.Mark.TheVariants.{New, Open, Complete}
 use Rattle.btf_order.specs.declared.progress.Progress.{Progress}
@@ -14,9 +16,10 @@ use Rattle.btf_order.specs.declared.progress.Visit.{Visit}
 use Rattle.btf_order.specs.declared.progress.Visit.TheVariants.{Returns, Opens}
 use Rattle.btf_order.specs.declared.shape.Node.{Node}
 use Rattle.btf_order.specs.Frame.{IsCovered}
-use Rattle.btf_order.specs.Progress.{IsBehind, is_complete_mark, is_complete_in, KnowsOrder, Grows, IsSameOrder, VisitIs, IsMarked, IsListed, HasLeft, mark_weight, walks_weight, left_over}
+use Rattle.btf_order.specs.Progress.{IsBehind, OpensOnly, is_complete_mark, is_complete_in, KnowsOrder, Grows, IsSameOrder, VisitIs, IsMarked, IsListed, HasLeft, mark_weight, walks_weight, left_over}
 use Rattle.btf_order.proofs.Covers.{true_not_false, covered_more}
 use Rattle.btf_order.proofs.Lists.{set_here, set_other, same_or_not}
+use Rattle.btf_order.proofs.Opening.{by, marked_opens, behind_opens}
 
 -- ---- marks
 
@@ -104,10 +107,13 @@ module _ (records : List Record) where
       ids = same_ids p q same;
     }
 
-    pub marked_visit : (v : Visit) (from : Node) → from.id ≡ id → IsMarked p q id v → VisitIs records p q from v
-    marked_visit (Returns link) from here h = absurd h
-    marked_visit (Opens node) from here (is, new, marks, walks, same) = record {
+    pub marked_visit : (v : Visit) (from : Node) → from.id ≡ id → id < length records → counted records (use_of from) ≡ Some (by id false) → IsMarked p q id v → VisitIs records p q from v
+    marked_visit (Returns link) from here within counts h = absurd h
+    marked_visit (Opens node) from here within counts (is, new, marks, walks, same) = record {
       id = ap (λ (n : Node). n.id) is ∙ sym here;
+      inside = subst (λ (n : Node). n.id < length records) (sym is) within;
+      counts = counts ∙ ap (λ (n : Node). Some (use_of n)) (sym is);
+      opens = subst (λ (n : Node). OpensOnly p q (use_of n)) (sym is) (marked_opens p q id (slice_get_within p.marks.items id New new) marks walks);
       through_pointer = λ e. absurd (true_not_false (sym e ∙ ap (λ (n : Node). n.through_pointer) is));
       less =
           let walks_same : sum_by walks_weight q.walks.items ≡ sum_by walks_weight p.walks.items = ap (λ v. sum_by walks_weight v.items) walks in
@@ -120,7 +126,7 @@ module _ (records : List Record) where
     pub behind_knows : (v : Visit) → IsBehind p q id v → KnowsOrder records q
     behind_knows (Returns link) (same, weak) = subst (KnowsOrder records) (sym same) knows
     behind_knows (Opens node) (is, marks, walks, less, same) =
-        knows_from p q knows (ap (λ v. length v.items) marks) walks same
+        knows_from p q knows (ap (λ v. length v.items) marks) (ap (λ xs. length xs) walks.1 ∙ length-set p.walks.items id walks.0) same
         (λ j e. knows.complete j (ap (λ v. is_complete_in v.items j) (sym marks) ∙ e))
 
     pub behind_grows : (v : Visit) → IsBehind p q id v → Grows p q
@@ -128,6 +134,21 @@ module _ (records : List Record) where
     behind_grows (Opens node) (is, marks, walks, less, same) = record {
       complete = λ j e. ap (λ v. is_complete_in v.items j) marks ∙ e;
       ids = same_ids p q same;
+    }
+
+    pub behind_visit : (v : Visit) (from : Node) → from.id ≡ id → from.through_pointer ≡ true → id < length records → counted records (use_of from) ≡ Some (by id true) → IsBehind p q id v → VisitIs records p q from v
+    behind_visit (Returns link) from here pointer within counts (same, weak) =
+        (same, λ covers. absurd (elim covers [ inl h ↦ true_not_false (sym pointer ∙ h) | inr h ↦ true_not_false (sym h ∙ weak) ]), λ h. absurd (true_not_false (sym pointer ∙ h)))
+    behind_visit (Opens node) from here pointer within counts (is, marks, walks, less, same) = record {
+      id = ap (λ (n : Node). n.id) is ∙ sym here;
+      inside = subst (λ (n : Node). n.id < length records) (sym is) within;
+      counts = counts ∙ ap (λ (n : Node). Some (use_of n)) (sym is);
+      opens = subst (λ (n : Node). OpensOnly p q (use_of n)) (sym is) (behind_opens p q id walks.0 marks walks.1);
+      through_pointer = λ e. pointer;
+      less =
+          let marks_same : sum_by mark_weight q.marks.items ≡ sum_by mark_weight p.marks.items = ap (λ v. sum_by mark_weight v.items) marks in
+          let walks_less : sum_by walks_weight q.walks.items + 2 ≤ sum_by walks_weight p.walks.items = less in
+          omega arith;
     }
 
   -- a type that is in its place in the order

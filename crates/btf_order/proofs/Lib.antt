@@ -1,5 +1,6 @@
 pub mod Types
 pub mod Lists
+pub mod Opening
 pub mod Covers
 pub mod Knowing
 pub mod Starting

@@ -1,5 +1,5 @@
 -- The progress before the first type.
-use Rattle.std.proofs.Common.{◌≡◌, ◌<◌, ℕ, zero, suc, true, false, List, [], length, replicate, refl, ap, sym, subst, ◌∙◌, Some, arith, slice_get}
+use Rattle.std.proofs.Common.{◌≡◌, ◌<◌, ℕ, Bool, zero, suc, true, false, List, [], length, replicate, refl, ap, sym, subst, ◌∙◌, Some, arith, slice_get}
 use Rattle.std.specs.List.{Contains}
 use Rattle.std.proofs.lemmas.List.{length-replicate}
 use Rattle.std.proofs.lemmas.Option.{none-some}
@@ -8,13 +8,31 @@ use Rattle.btf_order_model.specs.Order.{IsOrdered}
 use Rattle.btf_order.specs.declared.progress.Mark.TheVariants.{New}
 use Rattle.btf_order.specs.declared.progress.Progress.{Progress}
 use Rattle.btf_order.specs.declared.progress.Walks.{Walks}
-use Rattle.btf_order.specs.Progress.{is_complete_in, KnowsOrder}
+use Rattle.btf_order.specs.Progress.{is_complete_in, is_open_mark, is_open_walk, is_open, NoneOpen, KnowsOrder}
 use Rattle.btf_order.proofs.Covers.{true_not_false}
+use Rattle.btf_order.proofs.Opening.{by}
 
 none_complete : (n id : ℕ) → is_complete_in (replicate n New) id ≡ false
 none_complete zero id = refl
 none_complete (suc n) zero = refl
 none_complete (suc n) (suc id) = none_complete n id
+
+none_marked : (n id : ℕ) → is_open_mark (slice_get (replicate n New) id) ≡ false
+none_marked zero id = refl
+none_marked (suc n) zero = refl
+none_marked (suc n) (suc id) = none_marked n id
+
+none_walked : (n id : ℕ) (w : Walks) → w.is_open ≡ false → is_open_walk (slice_get (replicate n w) id) ≡ false
+none_walked zero id w closed = refl
+none_walked (suc n) zero w closed = closed
+none_walked (suc n) (suc id) w closed = none_walked n id w closed
+
+-- before the first type none is open
+pub none_open : (p : Progress) (n : ℕ) (w : Walks) → w.is_open ≡ false → p.marks.items ≡ replicate n New → p.walks.items ≡ replicate n w → NoneOpen p
+none_open p n w closed marks walks = record { closed = λ u. cases u.type u.behind_pointer } where
+  cases : (j : ℕ) (b : Bool) → is_open p (by j b) ≡ false
+  cases j true = ap (λ xs. is_open_walk (slice_get xs j)) walks ∙ none_walked n j w closed
+  cases j false = ap (λ xs. is_open_mark (slice_get xs j)) marks ∙ none_marked n j
 
 none_listed : (n id : ℕ) → slice_get (replicate n false) id ≡ Some true → ⊥
 none_listed zero id e = none-some true e

@@ -1,8 +1,9 @@
 -- The types that the walk has come to, and the order of the declarations so far.
-use Rattle.std.specs.Prelude.{IsTrue, ◌≡◌, ◌≤◌, ◌+◌, ◌*◌, ◌⊎◌, ℕ, Bool, true, false, if◌then◌else◌, List, [], ◌∷◌, ◌++◌, length, set, slice_get, Option, Some}
+use Rattle.std.specs.Prelude.{IsTrue, ◌≡◌, ◌≢◌, ◌<◌, ◌≤◌, ◌+◌, ◌*◌, ◌⊎◌, ℕ, Bool, true, false, if◌then◌else◌, List, [], ◌∷◌, ◌++◌, length, set, slice_get, Option, Some, None}
 use Rattle.std.specs.List.{Contains, sum_by}
 use Rattle.btf_model.specs.Record.{Record}
 use Rattle.btf_order_model.specs.Order.{IsOrdered, may_be_declared}
+use Rattle.btf_order_model.specs.Uses.{Use, counted}
 use Rattle.btf_order.specs.declared.progress.Mark.{Mark}
 use Rattle.btf_order.specs.declared.progress.Mark.TheVariants.{New, Open, Complete}
 use Rattle.btf_order.specs.declared.progress.Progress.{Progress}
@@ -11,6 +12,7 @@ use Rattle.btf_order.specs.declared.progress.Visit.TheVariants.{Returns, Opens}
 use Rattle.btf_order.specs.declared.progress.Walks.{Walks}
 use Rattle.btf_order.specs.declared.shape.Node.{Node}
 use Rattle.btf_order.specs.Frame.{IsCovered, LinkIs}
+use Rattle.btf_order.specs.Shape.{use_of}
 
 -- a mark is `Complete`
 abbrev pub is_complete_mark : Option Mark → Bool
@@ -19,6 +21,35 @@ is_complete_mark mark = false
 
 abbrev pub is_complete_in : List Mark → ℕ → Bool
 is_complete_in marks id = is_complete_mark (slice_get marks id)
+
+-- ---- open types
+
+abbrev pub is_open_mark : Option Mark → Bool
+is_open_mark (Some Open) = true
+is_open_mark mark = false
+
+abbrev pub is_open_walk : Option Walks → Bool
+is_open_walk (Some w) = w.is_open
+is_open_walk None = false
+
+-- the type of a use waits for another type
+abbrev pub is_open : Progress → Use → Bool
+is_open p u =
+    if u.behind_pointer then is_open_walk (slice_get p.walks.items u.type) else is_open_mark (slice_get p.marks.items u.type)
+
+-- no type waits for another
+pub record NoneOpen (p : Progress) : Type 0 where
+  pub closed : (u : Use) → is_open p u ≡ false
+
+-- no use is opened but this one
+abbrev pub OpensOnly : Progress → Progress → Use → Type 0
+OpensOnly before after opened = (u : Use) → is_open after u ≡ true → (is_open before u ≡ true) ⊎ (u ≡ opened)
+
+-- no use is opened, and this one is closed
+abbrev pub Closes : Progress → Progress → Use → Type 0
+Closes before after closed = (u : Use) → is_open after u ≡ true → (is_open before u ≡ true) × (u ≢ closed)
+
+-- ---- what is known
 
 -- the order has each declared type once, after what it needs; a complete type and what it needs are declared
 pub record KnowsOrder (records : List Record) (p : Progress) : Type 0 where
@@ -55,8 +86,11 @@ pub record IsSameOrder (before after : Progress) : Type 0 where
   pub referenced : after.referenced ≡ before.referenced
 
 -- a type was opened
-pub record IsTypeOpened (before after : Progress) (from to : Node) : Type 0 where
+pub record IsTypeOpened (records : List Record) (before after : Progress) (from to : Node) : Type 0 where
   pub id : to.id ≡ from.id
+  pub inside : to.id < length records
+  pub counts : counted records (use_of from) ≡ Some (use_of to)
+  pub opens : OpensOnly before after (use_of to)
   pub through_pointer : to.through_pointer ≡ true → from.through_pointer ≡ true
   pub less : left_over after + 2 ≤ left_over before
 
@@ -65,7 +99,7 @@ abbrev pub VisitIs : List Record → Progress → Progress → Node → Visit �
 VisitIs records before after node (Returns link) =
     (after ≡ before) × LinkIs records before.ids.items node link
     × (node.through_pointer ≡ false → is_complete_in before.marks.items node.id ≡ true)
-VisitIs records before after node (Opens next) = IsTypeOpened before after node next
+VisitIs records before after node (Opens next) = IsTypeOpened records before after node next
 
 -- a type is opened by its mark
 abbrev pub IsMarked : Progress → Progress → ℕ → Visit → Type 0
@@ -79,7 +113,7 @@ abbrev pub IsBehind : Progress → Progress → ℕ → Visit → Type 0
 IsBehind before after id (Returns link) = (after ≡ before) × (link.is_strong ≡ false)
 IsBehind before after id (Opens node) =
     (node ≡ record { id = id; through_pointer = true }) × (after.marks ≡ before.marks)
-    × (length after.walks.items ≡ length before.walks.items)
+    × ((w : Walks) × (after.walks.items ≡ set before.walks.items id w))
     × (sum_by walks_weight after.walks.items + 2 ≤ sum_by walks_weight before.walks.items) × IsSameOrder before after
 
 -- a type is appended to the order, if it is not there
@@ -89,6 +123,13 @@ IsListed before after id =
     ⊎ ((slice_get before.listed.items id ≡ Some false) × (after.ids.items ≡ before.ids.items ++ id ∷ [])
     × (after.listed.items ≡ set before.listed.items id true) × (after.marks ≡ before.marks) × (after.walks ≡ before.walks)
     × (after.referenced ≡ before.referenced))
+
+-- the walks to a type that is open behind a pointer are open no more
+abbrev pub LeavesWalks : Progress → Progress → Node → Type 0
+LeavesWalks before after node =
+    (node.through_pointer ≡ false → after.walks ≡ before.walks)
+    × (node.through_pointer ≡ true
+    → (w : Walks) × (w.is_open ≡ false) × (after.walks.items ≡ set before.walks.items node.id w))
 
 -- a type is open no more, and complete if its result is settled
 pub record HasLeft (before after : Progress) (id : ℕ) (is_settled : Bool) : Type 0 where

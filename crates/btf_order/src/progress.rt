@@ -4,9 +4,10 @@ ghost use Rattle.std.specs.Prelude.{◌≡◌, ◌<◌, ◌≤◌, length, slice
 ghost use Rattle.btf_order_model.specs.Order.{value_types_in};
 ghost use Rattle.btf_records.specs.BtfType.{record_of};
 ghost use Rattle.btf_plain.specs.declared.error.BtfError.TheVariants.{MaximumTypeDepthReached, OutOfMemory};
-ghost use Rattle.btf_order.specs.Errors.{IsOrderError};
+ghost use Rattle.btf_order.specs.Errors.{IsVisitError};
+ghost use Rattle.btf_order.specs.Shape.{use_of};
 ghost use Rattle.btf_order.specs.Frame.{IsWalkFrame, IsCovered, LinkIs, is_done};
-ghost use Rattle.btf_order.specs.Progress.{KnowsOrder, Grows, IsListed, HasLeft, VisitIs, IsMarked, IsBehind, is_complete_in, left_over};
+ghost use Rattle.btf_order.specs.Progress.{KnowsOrder, NoneOpen, Grows, Closes, IsListed, HasLeft, LeavesWalks, VisitIs, IsMarked, IsBehind, is_complete_in, is_open_mark, is_open_walk, left_over};
 
 use crate::frame::{Frame, Link};
 use crate::shape::{Node, Passing, is_listed, passing_of, shape_of};
@@ -64,6 +65,7 @@ impl Progress {
     pub fn new(table: &Btf, referenced: Vec<bool>) -> Result<Self, BtfError>
         requires { length referenced.items ≡ length table.now.records }
         ensures knows { IfOk result (λ p. KnowsOrder table.now.records p) }
+        ensures none_open { IfOk result (λ p. NoneOpen p) }
         ensures error { IfErr result (λ e. e ≡ OutOfMemory) }
     {
         let alloc = allocator_of(table);
@@ -96,7 +98,8 @@ impl Progress {
         ensures grows { OnOk result (Grows self.old self.new) }
         ensures visit { IfOk result (λ v.
             VisitIs table.now.records self.old self.new node v) }
-        ensures error { IfErr result (λ e. IsOrderError table.now.records e) }
+        ensures error { IfErr result (λ e.
+            IsVisitError table.now.records self.old (use_of node) e) }
     {
         if self.is_complete(node.id) {
             return Ok(Visit::Returns(Link::complete()));
@@ -111,9 +114,11 @@ impl Progress {
 
     /// Opens a type to which the walk comes through no pointer.
     fn open(&mut self, id: u32) -> Result<Visit, BtfError>
-        requires { id < length self.old.marks.items }
+        requires inside { id < length self.old.marks.items }
+        requires incomplete { is_complete_in self.old.marks.items id ≡ false }
         ensures opened { IfOk result (λ v. IsMarked self.old self.new id v) }
-        ensures error { IfErr result (λ e. e ≡ MaximumTypeDepthReached id) }
+        ensures error { IfErr result (λ e. (e ≡ MaximumTypeDepthReached id)
+            × (is_open_mark (slice_get self.old.marks.items id) ≡ true)) }
     {
         match self.marks[id as usize] {
             Mark::New => {
@@ -131,7 +136,8 @@ impl Progress {
     fn open_behind(&mut self, id: u32) -> Result<Visit, BtfError>
         requires { id < length self.old.walks.items }
         ensures opened { IfOk result (λ v. IsBehind self.old self.new id v) }
-        ensures error { IfErr result (λ e. e ≡ MaximumTypeDepthReached id) }
+        ensures error { IfErr result (λ e. (e ≡ MaximumTypeDepthReached id)
+            × (is_open_walk (slice_get self.old.walks.items id) ≡ true)) }
     {
         let walks = self.walks[id as usize];
         if walks.is_open {
@@ -157,14 +163,16 @@ impl Progress {
         requires frame { IsWalkFrame table.now.records self.old.ids.items frame.now }
         requires last { length (value_types_in table.now.records frame.now.node.id)
             ≤ frame.now.next }
+        requires inside { frame.now.node.id < length table.now.records }
         ensures knows { OnOk result (KnowsOrder table.now.records self.new) }
         ensures grows { OnOk result (Grows self.old self.new) }
+        ensures closes { OnOk result (Closes self.old self.new (use_of frame.now.node)) }
         ensures link { IfOk result (λ l.
             LinkIs table.now.records self.new.ids.items frame.now.node l) }
         ensures complete { OnOk result (frame.now.node.through_pointer ≡ false
             → is_complete_in self.new.marks.items frame.now.node.id ≡ true) }
         ensures less { OnOk result (left_over self.new ≤ left_over self.old) }
-        ensures error { IfErr result (λ e. IsOrderError table.now.records e) }
+        ensures error { IfErr result (λ e. e ≡ OutOfMemory) }
     {
         let btf_type = table.type_by_id(frame.node.id)?;
         self.place(table, frame, btf_type)?;
@@ -216,7 +224,8 @@ impl Progress {
     fn leave(&mut self, frame: &Frame, link: Link)
         requires marks { frame.now.node.id < length self.old.marks.items }
         requires walks { frame.now.node.id < length self.old.walks.items }
-        ensures { HasLeft self.old self.new frame.now.node.id link.is_settled }
+        ensures left { HasLeft self.old self.new frame.now.node.id link.is_settled }
+        ensures walks { LeavesWalks self.old self.new frame.now.node }
     {
         let id = frame.node.id;
         if frame.node.through_pointer {

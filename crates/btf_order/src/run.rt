@@ -2,10 +2,11 @@
 //!
 //! An explicit stack has the types that wait for the type after them.
 
-ghost use Rattle.std.specs.Prelude.{◌≡◌, true, OnOk, IfOk, IfErr};
-ghost use Rattle.btf_order.specs.Errors.{IsOrderError};
+ghost use Rattle.std.specs.Prelude.{◌≡◌, ◌<◌, true, length, OnOk, IfOk, IfErr};
+ghost use Rattle.btf_order.specs.Errors.{IsOrderError, IsStepError};
+ghost use Rattle.btf_order.specs.Shape.{use_of};
 ghost use Rattle.btf_order.specs.Frame.{IsWalkFrame};
-ghost use Rattle.btf_order.specs.Progress.{KnowsOrder, Grows, is_complete_in};
+ghost use Rattle.btf_order.specs.Progress.{KnowsOrder, Grows, NoneOpen, is_complete_in};
 ghost use Rattle.btf_order.specs.Run.{WalkStepIs};
 
 use crate::frame::Frame;
@@ -25,9 +26,12 @@ enum Step {
 
 /// Walks from a type, by value.
 pub fn run(table: &Btf, root: u32, progress: &mut Progress) -> Result<(), BtfError>
-    requires { KnowsOrder table.now.records progress.old }
+    requires knows { KnowsOrder table.now.records progress.old }
+    requires root { root < length table.now.records }
+    requires none_open { NoneOpen progress.old }
     ensures knows { OnOk result (KnowsOrder table.now.records progress.new) }
     ensures grows { OnOk result (Grows progress.old progress.new) }
+    ensures none_open { OnOk result (NoneOpen progress.new) }
     ensures error { IfErr result (λ e. IsOrderError table.now.records e) }
     ensures root { OnOk result (is_complete_in progress.new.marks.items root ≡ true) }
 {
@@ -61,11 +65,13 @@ pub fn run(table: &Btf, root: u32, progress: &mut Progress) -> Result<(), BtfErr
 fn advance(table: &Btf, top: &mut Frame, progress: &mut Progress) -> Result<Step, BtfError>
     requires knows { KnowsOrder table.now.records progress.old }
     requires frame { IsWalkFrame table.now.records progress.old.ids.items top.old }
+    requires inside { top.old.node.id < length table.now.records }
     ensures knows { OnOk result (KnowsOrder table.now.records progress.new) }
     ensures grows { OnOk result (Grows progress.old progress.new) }
     ensures frame { OnOk result (IsWalkFrame table.now.records progress.new.ids.items top.new) }
     ensures node { OnOk result (top.new.node ≡ top.old.node) }
-    ensures error { IfErr result (λ e. IsOrderError table.now.records e) }
+    ensures error { IfErr result (λ e.
+        IsStepError table.now.records progress.old (use_of top.old.node) e) }
     ensures step { IfOk result (λ s.
         WalkStepIs table.now.records progress.old progress.new top.new s) }
 {

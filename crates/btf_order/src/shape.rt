@@ -1,10 +1,12 @@
 //! The types that a type refers to, in the order of the walk, and whether it is declared.
 
-ghost use Rattle.std.specs.Prelude.{◌≡◌, ◌≤◌, ◌<◌, map, length, true, false, IsTrue, [], ◌∷◌};
+ghost use Rattle.std.specs.Prelude.{◌≡◌, ◌≤◌, ◌<◌, if◌then◌else◌, slice_get, map, length, true, false, IsTrue, [], ◌∷◌};
 ghost use Rattle.btf_model.specs.Record.{kind_of};
 ghost use Rattle.btf_records.specs.BtfType.{record_of};
 ghost use Rattle.btf_order_model.specs.Order.{value_types, is_declared_by, may_be_declared_by};
-ghost use Rattle.btf_order.specs.Shape.{ChildIs, IsShape, IsPassing, member_type, last_index};
+ghost use Rattle.btf_order_model.specs.Uses.{uses_by, uses_of};
+ghost use Rattle.std.specs.Option.{option_map};
+ghost use Rattle.btf_order.specs.Shape.{ChildIs, CountsAs, IsShape, IsPassing, member_type, param_type, use_of, last_index};
 
 use btf_plain::{BtfMember, BtfParam};
 use btf_records::BtfType;
@@ -65,7 +67,9 @@ pub fn shape_of(btf_type: &BtfType) -> Shape
 
 /// The type to which a type refers at an index, if there is one.
 pub fn child_of(btf_type: &BtfType, through_pointer: bool, index: usize) -> Option<Node>
-    ensures { ChildIs (value_types (record_of btf_type.now)) through_pointer index result }
+    ensures child { ChildIs (value_types (record_of btf_type.now)) through_pointer index result }
+    ensures uses { option_map use_of result ≡ slice_get (uses_by
+        (kind_of (record_of btf_type.now).info) (record_of btf_type.now) through_pointer) index }
 {
     // Only a use of the kind proves that the info word has it.
     let _ = btf_type.kind();
@@ -87,7 +91,9 @@ pub fn child_of(btf_type: &BtfType, through_pointer: bool, index: usize) -> Opti
 /// The type of a member of a STRUCT or UNION.
 fn member_at(members: &[BtfMember], index: usize) -> Option<Node>
     requires { length members.now ≤ last_index }
-    ensures { ChildIs (map member_type members.now) false index result }
+    ensures child { ChildIs (map member_type members.now) false index result }
+    ensures uses { option_map use_of result
+        ≡ slice_get (uses_of (map member_type members.now) false) index }
 {
     Some(Node {
         id: members.get(index)?.btf_type,
@@ -103,7 +109,9 @@ fn type_at(
     index: usize,
 ) -> Option<Node>
     requires { length params.now < last_index }
-    ensures { ChildIs [] through_pointer index result }
+    ensures child { ChildIs [] through_pointer index result }
+    ensures uses { option_map use_of result
+        ≡ slice_get (uses_of (return_type ∷ map param_type params.now) through_pointer) index }
 {
     let id = match index.checked_sub(1) {
         None => return_type,
@@ -117,7 +125,9 @@ fn type_at(
 
 /// The only type to which a type refers, at index 0.
 fn single(id: u32, through_pointer: bool, index: usize) -> Option<Node>
-    ensures { ChildIs (id ∷ []) through_pointer index result }
+    ensures child { ChildIs (id ∷ []) through_pointer index result }
+    ensures uses { option_map use_of result
+        ≡ slice_get (uses_of (id ∷ []) through_pointer) index }
 {
     if index != 0 {
         return None;
@@ -162,8 +172,11 @@ pub enum Passing {
 
 /// How the walk passes a type.
 pub fn passing_of(btf_type: &BtfType, through_pointer: bool) -> Passing
-    ensures { IsPassing through_pointer result }
+    ensures passes { IsPassing through_pointer result }
+    ensures counts { CountsAs (record_of btf_type.now) through_pointer result }
 {
+    // Only a use of the kind proves that the info word has it.
+    let _ = btf_type.kind();
     if !through_pointer {
         return Passing::AsByValue;
     }
@@ -181,7 +194,9 @@ pub fn passing_of(btf_type: &BtfType, through_pointer: bool) -> Passing
 }
 
 /// A STRUCT or UNION that has a name, or not.
-fn forward_if(has_name: bool) -> Passing {
+fn forward_if(has_name: bool) -> Passing
+    ensures { result ≡ if has_name then Passing.Forward else Passing.AsByValue }
+{
     if has_name {
         Passing::Forward
     } else {

@@ -1,8 +1,9 @@
 -- Worked examples of the definitions, computed.
-use Rattle.std.specs.Prelude.{◌≡◌, true, false, List, [], ◌∷◌, refl}
+use Rattle.std.specs.Prelude.{◌≡◌, ℕ, Bool, true, false, List, [], ◌∷◌, Some, None, refl}
 use Rattle.btf_model.specs.Made.{int, ptr, array, struct, union, enum, fwd, typedef, volatile, const, restrict, func_proto}
 use Rattle.btf_model.specs.Record.{Record, unknown}
 use Rattle.btf_order_model.specs.Order.{value_types_in, is_declared, may_be_declared}
+use Rattle.btf_order_model.specs.Uses.{Use, uses_in, counted}
 
 -- A table: 1 is an INT, 2 is `struct a { struct b x[2]; struct a *y; }`, 3 an ARRAY of 4, 4 is `struct b { int x; }`,
 -- 5 a PTR to 2, 6 is `typedef struct b c`, 7 a CONST of 6, 8 a VOLATILE of 7, 9 a RESTRICT of 5, 10 a prototype that
@@ -31,3 +32,20 @@ not_declared = (refl, refl, refl, refl, refl, refl, refl, refl)
 -- an ENUM without a name may be declared alone, a STRUCT without a name may not
 may_be_alone : (may_be_declared (enum 0 0 [] ∷ struct 0 0 0 [] ∷ int 1 4 32 ∷ []) 0 ≡ true) × (may_be_declared (enum 0 0 [] ∷ struct 0 0 0 [] ∷ int 1 4 32 ∷ []) 1 ≡ false) × (may_be_declared (enum 0 0 [] ∷ struct 0 0 0 [] ∷ int 1 4 32 ∷ []) 2 ≡ false)
 may_be_alone = (refl, refl, refl)
+
+-- ---- uses
+
+abbrev by : ℕ → Bool → Use
+by id behind = record { type = id; behind_pointer = behind }
+
+-- members and elements by value, what is behind a pointer, and what a modifier and a prototype pass on
+uses : (uses_in types (by 2 false) ≡ by 3 false ∷ by 5 false ∷ []) × (uses_in types (by 3 true) ≡ by 4 false ∷ []) × (uses_in types (by 5 false) ≡ by 2 true ∷ []) × (uses_in types (by 7 true) ≡ by 6 true ∷ []) × (uses_in types (by 10 true) ≡ by 4 true ∷ []) × (uses_in types (by 1 false) ≡ [])
+uses = (refl, refl, refl, refl, refl, refl)
+
+-- a prototype uses the type that it returns, and those of its parameters
+prototype_uses : uses_in (func_proto 1 1 (0 ∷ 2 ∷ []) ∷ []) (by 0 true) ≡ by 1 true ∷ by 2 true ∷ []
+prototype_uses = refl
+
+-- Behind a pointer a STRUCT with a name does not count, a UNION without a name counts as by value, and a typedef as it is.
+counts : (counted types (by 2 true) ≡ None) × (counted types (by 2 false) ≡ Some (by 2 false)) × (counted types (by 11 true) ≡ Some (by 11 false)) × (counted types (by 6 true) ≡ Some (by 6 true)) × (counted types (by 1 true) ≡ Some (by 1 false)) × (counted types (by 99 false) ≡ None)
+counts = (refl, refl, refl, refl, refl, refl)

@@ -1,3 +1,4 @@
 pub mod Order
+pub mod Uses
 pub mod Laws
 pub mod Examples
