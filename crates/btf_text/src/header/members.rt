@@ -194,7 +194,7 @@ fn write_alignment<W: Write>(
     }
     for power in 0..32 {
         let alignment = 1u64 << power;
-        if round_up(state.end, alignment * 8) == size {
+        if round_up(state.end, alignment.saturating_mul(8)) == size {
             write!(draft.out, " __attribute__((aligned({alignment})))")?;
             break;
         }

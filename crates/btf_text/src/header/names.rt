@@ -180,15 +180,10 @@ impl Names {
     ) -> Result<u32, TextError> {
         let read = text_at(table, name_offset)?;
         let text = text_or_empty(&read);
-        let is_plain = is_identifier(text);
-        if !is_plain {
+        if !is_identifier(text) {
             self.escape(text)?;
         }
-        let name = if is_plain {
-            text
-        } else {
-            self.escaped.as_str()
-        };
+        let name = spelling_of(text, self.escaped.as_str());
         if is_tag {
             self.tags.count(self.alloc, name, naming)
         } else {
@@ -248,6 +243,11 @@ impl Uses {
         }
         Ok(number)
     }
+}
+
+/// The spelling of a text, for which this one is escaped if the text is no identifier.
+fn spelling_of<'a>(text: &'a str, escaped: &'a str) -> &'a str {
+    if is_identifier(text) { text } else { escaped }
 }
 
 /// Writes the number after a name; nothing for the first type of the name.
