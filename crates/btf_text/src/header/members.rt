@@ -192,12 +192,13 @@ fn write_alignment<W: Write>(
     if round_up(state.end, natural.saturating_mul(8)) >= size {
         return Ok(());
     }
-    for power in 0..32 {
-        let alignment = 1u64 << power;
+    let mut alignment = 1u64;
+    for _ in 0..32 {
         if round_up(state.end, alignment.saturating_mul(8)) == size {
             write!(draft.out, " __attribute__((aligned({alignment})))")?;
             break;
         }
+        alignment = alignment.saturating_mul(2);
     }
     Ok(())
 }
