@@ -36,11 +36,6 @@ static TABLES: [Table; 24] = [
     ),
     // Two prototypes whose pairs of parameters all share a bucket, and the INTs that they take.
     Table("flood", FLOOD, b"\0"),
-    Table(
-        "records",
-        "0 04000001 4 0 3 0  0 05000001 4 0 3 0  0 04000000 4",
-        b"\0",
-    ),
     // An ENUM whose variants have names that are not UTF-8, except for the last one.
     Table("lossy_variants", "0 06000002 4  1 1 4 2", b"\0\xffA\0B\0"),
     // A STRUCT with a member, and an access string.
