@@ -10,7 +10,7 @@ use std::test::Fail;
 /// A table: its name, the words of its records, and its strings.
 struct Table(&'static str, &'static str, &'static [u8]);
 
-static TABLES: [Table; 24] = [
+static TABLES: [Table; 23] = [
     Table("empty", "", b"\0"),
     // A name that is not UTF-8.
     Table("lossy", "1 01000000 4 20", b"\0\xffA\0"),
