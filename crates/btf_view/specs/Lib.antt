@@ -1,0 +1,4 @@
+pub mod Places
+pub mod Header
+pub mod Index
+pub mod View
