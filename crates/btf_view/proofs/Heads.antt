@@ -1,15 +1,16 @@
 -- The head of the record at a place.
-use Rattle.std.proofs.Common.{◌≡◌, ℕ, ◌+◌, ◌*◌, ◌<◌, ◌≤◌, List, length, drop, Some, None, Ok, slice_get, refl, sym, ap, subst, ◌∙◌, arith, inl, inr}
-use Rattle.std.proofs.lemmas.List.{length-drop}
+use Rattle.std.proofs.Common.{◌≡◌, ℕ, ◌+◌, ◌*◌, ◌<◌, ◌≤◌, List, length, take, drop, Some, None, Ok, slice_get, refl, sym, ap, subst, ◌∙◌, arith, inl, inr}
+use Rattle.std.proofs.lemmas.List.{length-drop, drop-drop}
 use Rattle.btf_model.specs.declared.endianness.Endianness.{Endianness}
 use Rattle.btf_model.specs.Record.{Kind, Record, kind_of, vlen, tail_words, unknown}
-use Rattle.btf_model.specs.Word.{words_at}
+use Rattle.btf_model.specs.Word.{word_of, words_at}
+use Rattle.btf_model.specs.Blob.{word_at}
 use Rattle.btf_model.specs.Spelling.{kept}
 use Rattle.btf_model.proofs.Reading.{info_at}
 use Rattle.btf_plain.specs.declared.head.Head.{Head}
 use Rattle.btf_plain.specs.Head.{IsHead, headed}
 use Rattle.btf_view.specs.Places.{IsPlace}
-use Rattle.btf_view.specs.View.{HasHead}
+use Rattle.btf_view.specs.Record.{HasHead}
 use Rattle.btf_view.proofs.Front.{begins, after_head}
 
 -- a place at which no head fits is past the section
@@ -27,3 +28,17 @@ head_there order types bytes place r head result rest is h retains (inl read) =
     (retains b.kind (words_at order n rest) (ap kind_of at.info ∙ b.has))
 head_there order types bytes place r head result rest is h retains (inr past) =
     absurd (omega (arith, h.long, ap length is, length-drop place types, past.0))
+
+-- the three words at a place
+pub head_in : (order : Endianness) (types : List ℕ) (place a b c : ℕ) → a ≡ word_at order place types → b ≡ word_at order (place + 4) types → c ≡ word_at order (place + 8) types → place + 12 ≤ length types → IsHead order (drop place types) (record { name = a; info = b; third = c }) (drop 4 (drop 4 (drop 4 (drop place types))))
+head_in order types place a b c a-is b-is c-is le =
+    let second : drop (place + 4) types ≡ drop 4 (drop place types) = sym (drop-drop 4 place types) in
+    let third : drop (place + 8) types ≡ drop 4 (drop 4 (drop place types)) =
+    ap (λ (n : ℕ). drop n types) (let e : place + 8 ≡ place + 4 + 4 = omega arith in e) ∙ sym (drop-drop 4 (place + 4) types) ∙ ap (drop 4) second in
+    record {
+      long = omega (arith, length-drop place types, le);
+      name = a-is;
+      info = b-is ∙ ap (λ (x : List ℕ). word_of order (take 4 x)) second;
+      third = c-is ∙ ap (λ (x : List ℕ). word_of order (take 4 x)) third;
+      behind = refl;
+    }

@@ -1,5 +1,5 @@
 -- What indexing returns, by the header and the two sections.
-use Rattle.std.proofs.Common.{◌≡◌, ℕ, ◌+◌, ◌*◌, ◌<◌, ◌≤◌, List, ◌∷◌, length, take, drop, Some, Result, Ok, Err, refl, sym, ap, subst, ◌∙◌, arith}
+use Rattle.std.proofs.Common.{◌≡◌, ℕ, ◌+◌, ◌*◌, ◌<◌, ◌^◌, ◌≤◌, List, ◌∷◌, length, take, drop, Some, Result, Ok, Err, refl, sym, ap, subst, ◌∙◌, arith}
 use Rattle.std.proofs.lemmas.List.{length-take, length-drop}
 use Rattle.btf_model.specs.declared.endianness.Endianness.{Endianness}
 use Rattle.btf_model.specs.Record.{Record, unknown}
@@ -9,6 +9,7 @@ use Rattle.btf_model.specs.Blob as blob
 use Rattle.btf_model.specs.Blob.{header_len, header_of, slice, strings_end, types_end, IsTable, IsRefusal}
 use Rattle.btf_plain.specs.declared.error.BtfError.{BtfError}
 use Rattle.btf_plain.specs.declared.error.BtfError.TheVariants.{InvalidHeader, InvalidTypeInfo}
+use Rattle.btf_view.proofs.Places.{as_many_places}
 use Rattle.btf_view.specs.Header.{model_header}
 use Rattle.btf_view.specs.Places.{ArePlaces}
 use Rattle.btf_view.specs.Index.{FillsPlaces, Indexes, IsIndexed}
@@ -112,5 +113,8 @@ indexed order bytes types places h count has strings fits is filled =
       strings_fit = strings;
       strings = refl;
       count = filled.2;
-      places_are = subst (λ (x : List ℕ). ArePlaces order x (take count places) (unknown ∷ filled.0)) is filled.3;
+      places_are = record {
+        are = subst (λ (x : List ℕ). ArePlaces order x (take count places) (unknown ∷ filled.0)) is filled.4;
+        ids = omega (arith, as_many_places order types (take count places) (unknown ∷ filled.0) filled.4, length-take count places, filled.3);
+      };
     }

@@ -2,5 +2,10 @@ pub mod Front
 pub mod Places
 pub mod Heads
 pub mod Lengths
-pub mod Filling
+pub mod Cuts
 pub mod Indexes
+pub mod Tails
+pub mod Arrays
+pub mod Walking
+pub mod Filled
+pub mod Fills

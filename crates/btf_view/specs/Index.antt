@@ -1,5 +1,5 @@
 -- What a pass over a blob finds.
-use Rattle.std.specs.Prelude.{◌≡◌, ◌≢◌, ℕ, ◌+◌, ◌*◌, ◌≤◌, List, [], ◌∷◌, length, take, drop, Result, Ok, Err, Some}
+use Rattle.std.specs.Prelude.{◌≡◌, ◌≢◌, ℕ, ◌+◌, ◌*◌, ◌<◌, ◌^◌, ◌≤◌, List, [], ◌∷◌, length, take, drop, Result, Ok, Err, Some}
 use Rattle.btf_model.specs.declared.endianness.Endianness.{Endianness}
 use Rattle.btf_model.specs.Record.{Record, unknown}
 use Rattle.btf_model.specs.Refusal.{Refusal}
@@ -8,7 +8,7 @@ use Rattle.btf_model.specs.Blob.{slice, header_of, header_len, strings_end, type
 use Rattle.btf_plain.specs.Error.{refusal_of}
 use Rattle.btf_plain.specs.declared.error.BtfError.{BtfError}
 use Rattle.btf_model.specs.Spelling.{IsRecord}
-use Rattle.btf_view.specs.Places.{ArePlaces}
+use Rattle.btf_view.specs.Places.{ArePlaces, AreIndexed}
 use Rattle.btf_view.specs.declared.indexing.Sections.{Sections}
 use Rattle.btf_view.specs.declared.indexing.Unindexed.{Unindexed}
 use Rattle.btf_view.specs.declared.indexing.Unindexed.TheVariants.{Refused, TooFewPlaces}
@@ -24,7 +24,7 @@ HasLength order bytes (Err e) =
 abbrev pub FillsPlaces : Endianness → List ℕ → List ℕ → Result ℕ Unindexed → Type 0
 FillsPlaces order types places (Ok count) =
     (rs : List Record) × AreRecords order types rs × (count ≤ length places)
-    × ArePlaces order types (take count places) (unknown ∷ rs)
+    × (count < 2 ^ 32) × ArePlaces order types (take count places) (unknown ∷ rs)
 FillsPlaces order types places (Err (Refused e)) =
     (refusal : Refusal) × (refusal_of e ≡ Some refusal)
     × (rest : List ℕ) × IsRest order types rest × (rest ≢ []) × (refusal ≡ rest_refusal order rest)
@@ -42,7 +42,7 @@ pub record IsIndexed (order : Endianness) (bytes places : List ℕ) (index : Sec
   pub strings_fit : index.strings_at + index.strings_len ≤ length bytes
   pub strings : slice index.strings_at index.strings_len bytes ≡ table.strings
   pub count : index.count ≤ length places
-  pub places_are : ArePlaces order (slice index.types_at index.types_len bytes) (take index.count places) table.records
+  pub places_are : AreIndexed order (slice index.types_at index.types_len bytes) (take index.count places) table.records
 
 -- What indexing returns: the sections and the places; the first reason to refuse the bytes; or that there are fewer
 -- places than a type section of this length may need.

@@ -1,5 +1,5 @@
 -- Where the records of a type section begin.
-use Rattle.std.specs.Prelude.{◌≡◌, ◌⊎◌, ◌≤◌, ℕ, List, [], ◌∷◌, length, drop, Ok}
+use Rattle.std.specs.Prelude.{◌≡◌, ◌⊎◌, ◌≤◌, ◌<◌, ◌^◌, ℕ, List, [], ◌∷◌, length, drop, Ok}
 use Rattle.btf_model.specs.declared.endianness.Endianness.{Endianness}
 use Rattle.btf_model.specs.Record.{Record, unknown}
 use Rattle.btf_model.specs.Blob.{ReadsFront}
@@ -14,3 +14,8 @@ abbrev pub ArePlaces : Endianness → List ℕ → List ℕ → List Record → 
 ArePlaces order types [] [] = Unit {0}
 ArePlaces order types (place ∷ places) (r ∷ rs) = IsPlace order types place r × ArePlaces order types places rs
 ArePlaces order types places rs = ⊥
+
+-- The same, and each id has 32 bits.
+pub record AreIndexed (order : Endianness) (types places : List ℕ) (records : List Record) : Type 0 where
+  pub are : ArePlaces order types places records
+  pub ids : length records < 2 ^ 32

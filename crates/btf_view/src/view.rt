@@ -1,12 +1,25 @@
 //! A view of a table.
 
-ghost use Rattle.std.specs.Prelude.{◌≡◌, ◌≤◌, ℕ, length, List, slice_get, Some, MatchResult};
-ghost use Rattle.btf_model.specs.Record.{Record, Kind, kind_of};
-ghost use Rattle.btf_model.specs.Spelling.{kept};
-ghost use Rattle.btf_plain.specs.Head.{headed};
-ghost use Rattle.btf_view.specs.Places.{IsPlace};
-ghost use Rattle.btf_view.specs.View.{Shows, HasHead};
+ghost use Rattle.std.specs.Prelude.{◌≡◌, ◌≤◌, ◌<◌, ◌^◌, length, List, map, take, drop, slice_get, Some, MatchResult};
+ghost use Rattle.btf_model.specs.Record.{Record};
+ghost use Rattle.btf_model.specs.Walk.{Resolves, HasSize};
+ghost use Rattle.std.specs.Option.{option_map};
+ghost use Rattle.btf_model.specs.Text.{bytes_at};
+ghost use Rattle.btf_plain.specs.Error.{Meets};
+ghost use Rattle.btf_plain.specs.Kind as kinds;
+ghost use Rattle.btf_view.specs.Finding.{LooksUp};
+ghost use Rattle.btf_view.specs.Forms.{Begins, ListsItems, MembersOf, words_in};
+ghost use Rattle.btf_view.specs.Many.{FillsResolved, FillsSizes};
+ghost use Rattle.btf_view.specs.Record.{HasHead};
+ghost use Rattle.btf_view.specs.View.{Shows};
 
+use crate::filling::{fill_members, fill_types};
+use crate::finding::{Lookup, find_in};
+use crate::forms::{Member, TypeWords};
+use crate::record::{head_at, tail_at};
+use crate::sizing::{fill_sizes, size_of};
+use crate::text::name_at;
+use crate::walk::{fill_resolved, resolve_from};
 use btf_plain::{BtfError, BtfKind, Endianness, Head};
 
 /// A view of a table: the bytes of both sections, and the places of the records, which `index` finds.
@@ -22,44 +35,6 @@ pub struct View<'a> {
     pub places: &'a [u32],
 }
 
-/// No words: the head of the type of id 0.
-const NO_HEAD: Head = Head {
-    name: 0,
-    info: 0,
-    third: 0,
-};
-
-/// What reading retains of a head.
-#[inline(always)]
-fn kept_head(head: Head) -> Head
-    ensures { (k : Kind) (tail : List ℕ) → kind_of head.info ≡ Some k
-        → HasHead result (kept k (headed head tail)) }
-{
-    match BtfKind::try_from(head.kind()) {
-        Ok(BtfKind::Unknown) => NO_HEAD,
-        Ok(BtfKind::Fwd | BtfKind::Array) => Head {
-            name: head.name,
-            info: head.info,
-            third: 0,
-        },
-        _ => head,
-    }
-}
-
-/// The first three words of the record at a place, or zeroes if there is none.
-#[inline(always)]
-pub(crate) fn head_at(types: &[u8], place: u32, endianness: Endianness) -> Head
-    ensures { (r : Record) → IsPlace endianness types.now place r → HasHead result r }
-{
-    let Some(bytes) = types.get(place as usize..) else {
-        return NO_HEAD;
-    };
-    match Head::read(bytes, endianness) {
-        Ok((head, _)) => kept_head(head),
-        Err(_) => NO_HEAD,
-    }
-}
-
 impl<'a> View<'a> {
     /// The first three words of the type of an id. Fails with `UnknownBtfType` of the id if there is no such type.
     #[inline(always)]
@@ -71,6 +46,105 @@ impl<'a> View<'a> {
         match self.places.get(type_id as usize) {
             Some(place) => Ok(head_at(self.types, *place, self.endianness)),
             None => Err(BtfError::UnknownBtfType { type_id }),
+        }
+    }
+
+    /// Writes the first words of the types from an id on, as many as there are and as fit, and returns their number.
+    pub fn types(&self, first: u32, out: &mut [TypeWords]) -> usize
+        ensures { (records : List Record) → Shows self.now records
+            → Begins (take (length out.old) (drop first (map words_in records)))
+            out.old out.new result }
+    {
+        let (types, places) = (self.types, self.places);
+        match self.endianness {
+            Endianness::Little => fill_types(types, places, Endianness::Little, first, out),
+            Endianness::Big => fill_types(types, places, Endianness::Big, first, out),
+        }
+    }
+
+    /// Writes the members of a STRUCT or UNION, as many as there are and as fit, and returns their number.
+    ///
+    /// Fails with `UnknownBtfType` of the id if there is no such type, and with `UnexpectedBtfType` of the id if its
+    /// type has another kind. After an error the buffer is unchanged.
+    pub fn members(&self, type_id: u32, out: &mut [Member]) -> Result<usize, BtfError>
+        ensures { (records : List Record) → Shows self.now records
+            → ListsItems out.old out.new result (MembersOf records type_id) }
+    {
+        let Some(place) = self.places.get(type_id as usize) else {
+            return Err(BtfError::UnknownBtfType { type_id });
+        };
+        let head = head_at(self.types, *place, self.endianness);
+        let Ok(kind) = BtfKind::try_from(head.kind()) else {
+            return Err(BtfError::UnexpectedBtfType { type_id });
+        };
+        match kind {
+            BtfKind::Struct | BtfKind::Union => {
+                let tail = tail_at(self.types, *place, self.endianness);
+                Ok(fill_members(head.info, tail, self.endianness, out))
+            }
+            _ => Err(BtfError::UnexpectedBtfType { type_id }),
+        }
+    }
+
+    /// The bytes of the name at a string offset, up to the first zero byte; they need not be UTF-8. None if there is no
+    /// zero byte at the offset or after it.
+    pub fn name(&self, offset: u32) -> Option<&'a [u8]>
+        ensures { option_map (λ b. b.now) result ≡ bytes_at self.now.strings.now offset }
+    {
+        name_at(self.strings, offset)
+    }
+
+    /// The least id of a type of this kind and name, as `Btf::id_by_type_name_kind` gives it.
+    pub fn find(&self, name: &str, kind: BtfKind) -> Lookup
+        ensures { (records : List Record) → Shows self.now records
+            → LooksUp self.now.strings.now records (kinds.kind kind) name.now result }
+    {
+        let (types, strings, places) = (self.types, self.strings, self.places);
+        match self.endianness {
+            Endianness::Little => find_in(types, strings, places, Endianness::Little, name, kind),
+            Endianness::Big => find_in(types, strings, places, Endianness::Big, name, kind),
+        }
+    }
+
+    /// The id of the type that an id resolves to, as `Btf::resolve_type` does.
+    pub fn resolve(&self, type_id: u32) -> Result<u32, BtfError>
+        ensures { (records : List Record) → Shows self.now records
+            → Meets (λ id. id) result (Resolves records type_id) }
+    {
+        resolve_from(self.types, self.places, self.endianness, type_id)
+    }
+
+    /// Writes what the ids from one on resolve to, as many as there are types and as fit, and returns their number. An
+    /// id for which `resolve` fails has 2^32 - 1.
+    pub fn resolved(&self, first: u32, out: &mut [u32]) -> usize
+        ensures { (records : List Record) → Shows self.now records
+            → FillsResolved records first out.old out.new result }
+    {
+        let (types, places) = (self.types, self.places);
+        match self.endianness {
+            Endianness::Little => fill_resolved(types, places, Endianness::Little, first, out),
+            Endianness::Big => fill_resolved(types, places, Endianness::Big, first, out),
+        }
+    }
+
+    /// The size of a type in bytes, as `Btf::type_size` gives it.
+    pub fn size(&self, type_id: u32) -> Result<u32, BtfError>
+        ensures { (records : List Record) → Shows self.now records
+            → Meets (λ n. n) result (HasSize records type_id) }
+    {
+        size_of(self.types, self.places, self.endianness, type_id)
+    }
+
+    /// Writes the sizes of the types from an id on, as many as there are types and as fit, and returns their number. A
+    /// type for which `size` fails has 2^64 - 1.
+    pub fn sizes(&self, first: u32, out: &mut [u64]) -> usize
+        ensures { (records : List Record) → Shows self.now records
+            → FillsSizes records first out.old out.new result }
+    {
+        let (types, places) = (self.types, self.places);
+        match self.endianness {
+            Endianness::Little => fill_sizes(types, places, Endianness::Little, first, out),
+            Endianness::Big => fill_sizes(types, places, Endianness::Big, first, out),
         }
     }
 }

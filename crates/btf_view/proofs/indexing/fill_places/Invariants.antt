@@ -1,5 +1,5 @@
 use Rattle.std.proofs.Common.{length, ◌-◌}
-use Rattle.btf_view.proofs.Filling.{Filled}
+use Rattle.btf_view.proofs.Cuts.{Filled}
 use Rattle.btf_view.proofs.indexing.fill_places.Given as goal
 
 abbrev pub invariant-loop-at : goal.invariant-loop-at

@@ -1,5 +1,5 @@
 -- Finding the places of the records of a type section, one after another.
-use Rattle.std.proofs.Common.{◌≡◌, ℕ, zero, suc, ◌+◌, ◌*◌, ◌<◌, ◌≤◌, List, [], ◌∷◌, ◌++◌, length, take, drop, Some, None, Ok, Err, refl, sym, ap, subst, ◌∙◌, arith, set, inl, inr}
+use Rattle.std.proofs.Common.{◌≡◌, ℕ, zero, suc, ◌+◌, ◌*◌, ◌<◌, ◌^◌, ◌≤◌, List, [], ◌∷◌, ◌++◌, length, take, drop, Some, None, Ok, Err, refl, sym, ap, subst, ◌∙◌, arith, set, inl, inr}
 use Rattle.std.specs.Prelude.{◌≢◌}
 use Rattle.std.proofs.lemmas.List.{append-nil, length-append, length-drop, take_all, take_more_set, take-append-drop}
 use Rattle.std.proofs.Math.Seq.{take-add}
@@ -60,6 +60,6 @@ filled_ends order types places rest count at e h rest-is has lt =
     (has.0, has.1, rest, rest_from_none order types (take at types) rest h.records whole h.cut has.2.0, some, has.2.1)
 
 -- all is read
-pub filled_whole : (order : Endianness) (types places : List ℕ) (count at : ℕ) → Filled order types places count at → length types ≤ at → FillsPlaces order types places (Ok count)
-filled_whole order types places count at h le =
-    (h.records, subst (λ (x : List ℕ). AreRecords order x h.records) (take_all at types le) h.cut, h.room, h.are)
+pub filled_whole : (order : Endianness) (types places : List ℕ) (count at : ℕ) → Filled order types places count at → length types ≤ at → length types < 2 ^ 32 → FillsPlaces order types places (Ok count)
+filled_whole order types places count at h le short =
+    (h.records, subst (λ (x : List ℕ). AreRecords order x h.records) (take_all at types le) h.cut, h.room, omega (arith, h.few, h.within, short), h.are)

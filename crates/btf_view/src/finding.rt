@@ -1,0 +1,60 @@
+//! The type of a kind and a name.
+
+ghost use Rattle.std.specs.Prelude.{◌≡◌, ◌≢◌, ◌∷◌, ◌++◌, ℕ, List, get_or};
+ghost use Rattle.btf_model.specs.Record.{Record};
+ghost use Rattle.btf_plain.specs.Kind as kinds;
+ghost use Rattle.btf_view.specs.Finding.{LooksUp};
+ghost use Rattle.btf_view.specs.Places.{AreIndexed};
+
+use crate::record::head_at;
+use crate::text::{has_name_at, is_comparable, readable_end};
+use btf_plain::{BtfKind, Endianness};
+
+/// The result of looking up a kind and a name.
+#[derive(Clone, Copy, Debug, PartialEq, Eq)]
+pub enum Lookup {
+    /// The least id of a type of the kind and the name.
+    Found(u32),
+    /// No type has the kind and the name.
+    Missing,
+    /// A type of the kind, below any that has the name, has this string offset, at which no text can be read.
+    Unreadable(u32),
+    /// The name has a zero byte or a byte 0xEF, so that it can't be compared with the bytes of a text.
+    Incomparable,
+}
+
+/// The least id of a type of this kind and name.
+#[inline(always)]
+pub(crate) fn find_in(
+    types: &[u8],
+    strings: &[u8],
+    places: &[u32],
+    endianness: Endianness,
+    name: &str,
+    kind: BtfKind,
+) -> Lookup
+    ensures { (records : List Record) → AreIndexed endianness types.now places.now records
+        → LooksUp strings.now records (kinds.kind kind) name.now result }
+{
+    if !is_comparable(name) {
+        return Lookup::Incomparable;
+    }
+    let number = kind as u32;
+    let end = readable_end(strings);
+    let readable = &strings[..end];
+    let first = name.as_bytes().first().copied().unwrap_or(0);
+    let ids = places.len().min(u32::MAX as usize);
+    for id in 0..ids {
+        let head = head_at(types, places[id], endianness);
+        if head.kind() != number {
+            continue;
+        }
+        let Some(byte) = readable.get(head.name as usize) else {
+            return Lookup::Unreadable(head.name);
+        };
+        if *byte == first && has_name_at(strings, head.name, name) {
+            return Lookup::Found(id as u32);
+        }
+    }
+    Lookup::Missing
+}
