@@ -1,16 +1,15 @@
 -- Finding the places of the records of a type section, one after another.
-use Rattle.std.proofs.Common.{◌≡◌, ℕ, zero, suc, ◌+◌, ◌*◌, ◌<◌, ◌^◌, ◌≤◌, List, [], ◌∷◌, ◌++◌, length, take, drop, Some, None, Ok, Err, refl, sym, ap, subst, ◌∙◌, arith, set, inl, inr}
+use Rattle.std.proofs.Common.{◌≡◌, ℕ, ◌+◌, ◌*◌, ◌<◌, ◌^◌, ◌≤◌, List, [], ◌∷◌, ◌++◌, length, take, drop, Ok, Err, refl, sym, ap, subst, ◌∙◌, arith, set, inl, inr}
 use Rattle.std.specs.Prelude.{◌≢◌}
-use Rattle.std.proofs.lemmas.List.{append-nil, length-append, length-drop, take_all, take_more_set, take-append-drop}
+use Rattle.std.proofs.lemmas.List.{length-drop, take_all, take_more_set, take-append-drop}
 use Rattle.std.proofs.Math.Seq.{take-add}
 use Rattle.btf_model.specs.declared.endianness.Endianness.{Endianness}
 use Rattle.btf_model.specs.Record.{Record, unknown}
-use Rattle.btf_model.specs.Spelling.{IsRecord}
-use Rattle.btf_model.specs.Blob.{AreRecords, ReadsFront, IsRest}
+use Rattle.btf_model.specs.Blob.{AreRecords, ReadsFront}
 use Rattle.btf_model.proofs.Records.{AreRecords-push}
 use Rattle.btf_model.proofs.Blobs.{rest_from_none}
 use Rattle.btf_plain.specs.declared.error.BtfError.{BtfError}
-use Rattle.btf_view.specs.Places.{IsPlace, ArePlaces}
+use Rattle.btf_view.specs.Places.{ArePlaces}
 use Rattle.btf_view.specs.Index.{HasLength, FillsPlaces}
 use Rattle.btf_view.specs.declared.indexing.Unindexed.TheVariants.{Refused}
 use Rattle.btf_view.proofs.Places.{one_more_place}

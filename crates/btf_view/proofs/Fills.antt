@@ -1,8 +1,8 @@
 -- Values that are written to a buffer in their order.
-use Rattle.std.proofs.Common.{◌≡◌, ◌∙◌, ◌++◌, ◌<◌, ◌≤◌, ◌+◌, ◌-◌, ◌*◌, ℕ, zero, suc, List, [], ◌∷◌, Some, length, take, drop, set, get_or, min, refl, sym, ap, subst, arith}
-use Rattle.std.specs.Prelude.{map, slice_get}
-use Rattle.std.proofs.Math.Nat.{min-le_left, min-le_right}
-use Rattle.std.proofs.lemmas.List.{drop-drop, drop-set-lt, length-take, length-take-le, take-append-drop, take_min, take_more, take_more_set}
+use Rattle.std.proofs.Common.{◌≡◌, ◌∙◌, ◌++◌, ◌<◌, ◌≤◌, ◌+◌, ◌*◌, ℕ, zero, suc, List, [], ◌∷◌, Some, length, take, drop, set, min, refl, sym, ap, subst, arith}
+use Rattle.std.specs.Prelude.{slice_get}
+use Rattle.std.proofs.Math.Nat.{min-le_right}
+use Rattle.std.proofs.lemmas.List.{drop-drop, drop-set-lt, length-take-le, take-append-drop, take_min, take_more, take_more_set}
 use Rattle.std.proofs.lemmas.Option.{slice_get_within, get_or_from_slice_get}
 use Rattle.btf_model.specs.declared.endianness.Endianness.{Endianness}
 use Rattle.btf_model.specs.Word.{word_of, words_at}

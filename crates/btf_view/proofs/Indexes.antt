@@ -1,8 +1,8 @@
 -- What indexing returns, by the header and the two sections.
-use Rattle.std.proofs.Common.{◌≡◌, ℕ, ◌+◌, ◌*◌, ◌<◌, ◌^◌, ◌≤◌, List, ◌∷◌, length, take, drop, Some, Result, Ok, Err, refl, sym, ap, subst, ◌∙◌, arith}
+use Rattle.std.proofs.Common.{◌≡◌, ℕ, ◌+◌, ◌<◌, ◌≤◌, List, ◌∷◌, length, take, drop, Ok, Err, refl, sym, ap, subst, ◌∙◌, arith}
 use Rattle.std.proofs.lemmas.List.{length-take, length-drop}
 use Rattle.btf_model.specs.declared.endianness.Endianness.{Endianness}
-use Rattle.btf_model.specs.Record.{Record, unknown}
+use Rattle.btf_model.specs.Record.{unknown}
 use Rattle.btf_model.specs.Refusal as refusals
 use Rattle.btf_model.specs.Table.{Table, no_fallbacks}
 use Rattle.btf_model.specs.Blob as blob
@@ -14,7 +14,6 @@ use Rattle.btf_view.specs.Header.{model_header}
 use Rattle.btf_view.specs.Places.{ArePlaces}
 use Rattle.btf_view.specs.Index.{FillsPlaces, Indexes, IsIndexed}
 use Rattle.btf_view.specs.declared.header.Header.{Header}
-use Rattle.btf_view.specs.declared.indexing.Sections.{Sections}
 use Rattle.btf_view.specs.declared.indexing.Unindexed.{Unindexed}
 use Rattle.btf_view.specs.declared.indexing.Unindexed.TheVariants.{Refused, TooFewPlaces}
 

@@ -1,19 +1,16 @@
 -- The length of the record that bytes begin with.
 use Rattle.std.proofs.Common.{◌≡◌, ℕ, suc, ◌+◌, ◌*◌, ◌<◌, ◌≤◌, List, length, take, drop, Some, None, Result, Ok, Err, refl, sym, ap, subst, ◌∙◌, arith}
 use Rattle.std.specs.Prelude.{IsErrAnd, slice_get}
-use Rattle.std.proofs.lemmas.List.{length-drop}
 use Rattle.std.proofs.lemmas.Result.{err_from_is_err_and}
 use Rattle.btf_model.specs.declared.endianness.Endianness.{Endianness}
 use Rattle.btf_model.specs.Record.{Kind, Record, kinds, kind_number, kind_of, vlen, tail_words}
 use Rattle.btf_model.specs.Refusal as refusals
 use Rattle.btf_model.specs.Spelling.{kept, HasKind, IsRecord}
-use Rattle.btf_model.specs.Blob.{ReadsFront}
 use Rattle.btf_model.proofs.Words.{IsBytes, length-words_at, spelled-words_at, words_at_fit}
 use Rattle.btf_model.proofs.Reading.{reads_other_kind, reads_cut, record_at, info_at}
 use Rattle.btf_plain.specs.declared.error.BtfError.{BtfError}
 use Rattle.btf_plain.specs.declared.error.BtfError.TheVariants.{InvalidTypeKind, InvalidTypeInfo}
 use Rattle.btf_plain.specs.declared.head.Head.{Head}
-use Rattle.btf_plain.specs.Error.{refusal_of}
 use Rattle.btf_plain.specs.Head.{IsHead}
 use Rattle.btf_view.specs.Index.{HasLength}
 

@@ -9,3 +9,6 @@ pub mod Arrays
 pub mod Walking
 pub mod Filled
 pub mod Fills
+pub mod KindNames
+pub mod Listed
+pub mod Found

@@ -1,6 +1,6 @@
 -- Looking up the places of records.
-use Rattle.std.proofs.Common.{◌≡◌, ℕ, zero, suc, ◌+◌, ◌<◌, ◌≤◌, List, [], ◌∷◌, ◌++◌, length, Some, None, slice_get, refl, sym, ap, subst, ◌∙◌, arith}
-use Rattle.std.proofs.lemmas.Option.{same_Some, slice_get_past, slice_get_within}
+use Rattle.std.proofs.Common.{◌≡◌, ℕ, zero, suc, List, [], ◌∷◌, ◌++◌, length, drop, Some, slice_get, refl, ap, subst, arith}
+use Rattle.std.proofs.lemmas.Option.{same_Some, slice_get_within}
 use Rattle.btf_model.specs.declared.endianness.Endianness.{Endianness}
 use Rattle.btf_model.specs.Record.{Record}
 use Rattle.btf_view.specs.Places.{IsPlace, ArePlaces}
@@ -26,3 +26,11 @@ placed order types (q ∷ ps) (r ∷ rs) zero p h is = (r, refl, subst (λ (x : 
 placed order types (q ∷ ps) (r ∷ rs) (suc id) p h is = placed order types ps rs id p h.1 is
 placed order types [] (r ∷ rs) id p h is = absurd h
 placed order types (q ∷ ps) [] id p h is = absurd h
+
+-- the places from an id on
+pub places_after : (order : Endianness) (types places : List ℕ) (rs : List Record) (n : ℕ) → ArePlaces order types places rs → ArePlaces order types (drop n places) (drop n rs)
+places_after order types places rs zero h = h
+places_after order types [] [] (suc n) h = h
+places_after order types (p ∷ ps) (r ∷ rs) (suc n) h = places_after order types ps rs n h.1
+places_after order types [] (r ∷ rs) (suc n) h = absurd h
+places_after order types (p ∷ ps) [] (suc n) h = absurd h

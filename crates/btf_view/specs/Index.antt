@@ -1,10 +1,10 @@
 -- What a pass over a blob finds.
-use Rattle.std.specs.Prelude.{◌≡◌, ◌≢◌, ℕ, ◌+◌, ◌*◌, ◌<◌, ◌^◌, ◌≤◌, List, [], ◌∷◌, length, take, drop, Result, Ok, Err, Some}
+use Rattle.std.specs.Prelude.{◌≡◌, ◌≢◌, ℕ, ◌+◌, ◌*◌, ◌<◌, ◌^◌, ◌≤◌, List, [], ◌∷◌, length, take, Result, Ok, Err, Some}
 use Rattle.btf_model.specs.declared.endianness.Endianness.{Endianness}
 use Rattle.btf_model.specs.Record.{Record, unknown}
 use Rattle.btf_model.specs.Refusal.{Refusal}
 use Rattle.btf_model.specs.Table.{Table}
-use Rattle.btf_model.specs.Blob.{slice, header_of, header_len, strings_end, types_end, AreRecords, IsTable, IsRefusal, IsRest, ReadsFront, rest_refusal}
+use Rattle.btf_model.specs.Blob.{slice, header_of, AreRecords, IsTable, IsRefusal, IsRest, ReadsFront, rest_refusal}
 use Rattle.btf_plain.specs.Error.{refusal_of}
 use Rattle.btf_plain.specs.declared.error.BtfError.{BtfError}
 use Rattle.btf_model.specs.Spelling.{IsRecord}

@@ -1,5 +1,5 @@
 -- What a view shows.
-use Rattle.std.specs.Prelude.{◌≡◌, ℕ, List}
+use Rattle.std.specs.Prelude.{List}
 use Rattle.btf_model.specs.Record.{Record}
 use Rattle.btf_view.specs.Places.{AreIndexed}
 use Rattle.btf_view.specs.declared.view.View.{View}

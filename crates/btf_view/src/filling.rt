@@ -1,6 +1,6 @@
 //! Writing many types or members to a buffer.
 
-ghost use Rattle.std.specs.Prelude.{◌≡◌, ◌*◌, ◌≤◌, List, map, length, take, drop};
+ghost use Rattle.std.specs.Prelude.{◌≡◌, ◌*◌, ◌<◌, ◌≤◌, ◌^◌, List, map, length, take, drop};
 ghost use Rattle.btf_model.specs.Record.{Record, vlen};
 ghost use Rattle.btf_model.specs.Word.{words_at};
 ghost use Rattle.btf_view.specs.Forms.{Begins, members_in, words_in};
@@ -12,12 +12,7 @@ use btf_plain::Endianness;
 
 /// Writes the first words of the types at these places, as many as fit, and returns their number.
 #[inline(always)]
-fn fill_words(
-    types: &[u8],
-    places: &[u32],
-    endianness: Endianness,
-    out: &mut [TypeWords],
-) -> usize
+fn fill_words(types: &[u8], places: &[u32], endianness: Endianness, out: &mut [TypeWords]) -> usize
     ensures { (rs : List Record) → ArePlaces endianness types.now places.now rs
         → Begins (take (length out.old) (map words_in rs)) out.old out.new result }
 {
@@ -47,6 +42,15 @@ pub(crate) fn fill_types(
     }
 }
 
+/// The number of items of a record with this info word.
+#[inline(always)]
+fn vlen_of(info: u32) -> usize
+    ensures value { result ≡ vlen info }
+    ensures small { result < 2 ^ 16 }
+{
+    (info & 0xffff) as usize
+}
+
 /// Writes the members of a record with this info word, whose words after the head the bytes begin with, as many as fit,
 /// and returns their number.
 #[inline(always)]
@@ -60,8 +64,11 @@ pub(crate) fn fill_members(
         → Begins (take (length out.old) (members_in info
         (words_at endianness (3 * vlen info) tail.now))) out.old out.new result }
 {
-    let vlen = (info & 0xffff) as usize;
-    let count = out.len().min(vlen.min(tail.len() / 12));
+    let vlen = vlen_of(info);
+    if tail.len() < 12 * vlen {
+        return 0;
+    }
+    let count = out.len().min(vlen);
     for index in 0..count {
         let at = 12 * index;
         out[index] = member_of(

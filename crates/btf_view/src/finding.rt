@@ -1,6 +1,7 @@
 //! The type of a kind and a name.
 
-ghost use Rattle.std.specs.Prelude.{◌≡◌, ◌≢◌, ◌∷◌, ◌++◌, ℕ, List, get_or};
+ghost use Rattle.std.specs.Prelude.{◌≡◌, List, Some, slice_get};
+ghost use Rattle.btf_model.specs.Record as model;
 ghost use Rattle.btf_model.specs.Record.{Record};
 ghost use Rattle.btf_plain.specs.Kind as kinds;
 ghost use Rattle.btf_view.specs.Finding.{LooksUp};
@@ -23,7 +24,35 @@ pub enum Lookup {
     Incomparable,
 }
 
-/// The least id of a type of this kind and name.
+/// The number of a kind.
+fn number_of(kind: BtfKind) -> u32
+    ensures { slice_get model.kinds result ≡ Some (kinds.kind kind) }
+{
+    match kind {
+        BtfKind::Unknown => 0,
+        BtfKind::Int => 1,
+        BtfKind::Ptr => 2,
+        BtfKind::Array => 3,
+        BtfKind::Struct => 4,
+        BtfKind::Union => 5,
+        BtfKind::Enum => 6,
+        BtfKind::Fwd => 7,
+        BtfKind::Typedef => 8,
+        BtfKind::Volatile => 9,
+        BtfKind::Const => 10,
+        BtfKind::Restrict => 11,
+        BtfKind::Func => 12,
+        BtfKind::FuncProto => 13,
+        BtfKind::Var => 14,
+        BtfKind::DataSec => 15,
+        BtfKind::Float => 16,
+        BtfKind::DeclTag => 17,
+        BtfKind::TypeTag => 18,
+        BtfKind::Enum64 => 19,
+    }
+}
+
+/// The least id of a type of this kind and name. No name of the table is read to its end.
 #[inline(always)]
 pub(crate) fn find_in(
     types: &[u8],
@@ -39,20 +68,18 @@ pub(crate) fn find_in(
     if !is_comparable(name) {
         return Lookup::Incomparable;
     }
-    let number = kind as u32;
+    let number = number_of(kind);
     let end = readable_end(strings);
-    let readable = &strings[..end];
-    let first = name.as_bytes().first().copied().unwrap_or(0);
     let ids = places.len().min(u32::MAX as usize);
     for id in 0..ids {
         let head = head_at(types, places[id], endianness);
         if head.kind() != number {
             continue;
         }
-        let Some(byte) = readable.get(head.name as usize) else {
+        if head.name as usize >= end {
             return Lookup::Unreadable(head.name);
-        };
-        if *byte == first && has_name_at(strings, head.name, name) {
+        }
+        if has_name_at(strings, head.name, name) {
             return Lookup::Found(id as u32);
         }
     }

@@ -76,11 +76,7 @@ pub fn index(data: &[u8], endianness: Endianness, places: &mut [u32]) -> Result<
 }
 
 /// Writes the place of each record of a type section, after the place of id 0, and returns the number of places.
-fn fill_places(
-    types: &[u8],
-    endianness: Endianness,
-    places: &mut [u32],
-) -> Result<usize, Unindexed>
+fn fill_places(types: &[u8], endianness: Endianness, places: &mut [u32]) -> Result<usize, Unindexed>
     requires { length types.now ≤ u32.MAX }
     ensures { FillsPlaces endianness types.now places.new result }
 {

@@ -1,6 +1,6 @@
 use Rattle.std.specs.Prelude.{◌≢◌}
 use Rattle.std.proofs.lemmas.Bool.{eqb-false}
-use Rattle.std.proofs.Common.{sym, ◌≡◌, ◌-◌, ◌+◌, length, take, drop, arith}
+use Rattle.std.proofs.Common.{sym, ◌≡◌, ◌-◌, length, take, drop, arith}
 use Rattle.std.proofs.lemmas.List.{take_all, length-drop, length-set}
 use Rattle.btf_view.proofs.Cuts.{filled_begins, filled_more, filled_ends, filled_whole}
 use Rattle.btf_view.proofs.indexing.fill_places.Goals as goal

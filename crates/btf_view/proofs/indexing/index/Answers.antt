@@ -1,4 +1,3 @@
-use Rattle.std.proofs.Common.{arith}
 use Rattle.btf_view.proofs.Indexes.{no_header, no_strings, no_types, no_places, indexed}
 use Rattle.btf_view.proofs.indexing.index.Goals as goal
 

@@ -1,4 +1,4 @@
-use Rattle.std.proofs.Common.{refl, drop, length, arith}
+use Rattle.std.proofs.Common.{refl, drop, arith}
 use Rattle.std.proofs.lemmas.List.{length-drop}
 use Rattle.btf_view.proofs.Heads.{nothing_there, head_there, head_in}
 use Rattle.btf_view.proofs.record.head_at.Goals as goal

@@ -1,4 +1,4 @@
-use Rattle.std.proofs.Common.{◌≡◌, ◌∙◌, ◌+◌, drop, refl, sym, ap, arith}
+use Rattle.std.proofs.Common.{arith}
 use Rattle.btf_view.proofs.Arrays.{array_long, array_words}
 use Rattle.btf_view.proofs.sizing.array_extent.Goals as goal
 

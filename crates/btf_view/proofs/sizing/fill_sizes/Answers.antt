@@ -1,6 +1,5 @@
-use Rattle.std.proofs.Common.{◌≡◌, ◌∙◌, ◌<◌, ◌+◌, ◌-◌, ℕ, List, length, min, drop, ap, arith, subst, sym}
+use Rattle.std.proofs.Common.{◌≡◌, ◌∙◌, ◌<◌, ◌+◌, ◌-◌, ℕ, length, min, drop, ap, arith, subst, sym}
 use Rattle.std.proofs.lemmas.List.{drop-drop, drop-set-lt}
-use Rattle.btf_model.specs.Record.{Record}
 use Rattle.btf_view.specs.Many.{SizeOrMost}
 use Rattle.btf_view.proofs.Filled.{filled_more}
 use Rattle.btf_view.proofs.Places.{as_many_places}

@@ -2,7 +2,6 @@ use Rattle.std.proofs.Common.{refl, sym, ap, ◌∙◌, inl, inr, ◌+◌, suc, 
 use Rattle.btf_model.specs.Refusal.{UnknownBtfType, UnexpectedBtfType, MaximumTypeDepthReached}
 use Rattle.btf_model.specs.Walk.{By, Bytes, Times, NoExtent, GoesOn, Elements, size_in, walk_limit}
 use Rattle.btf_model.proofs.Walks.{lead_on}
-use Rattle.btf_view.specs.Extent.{extent_of}
 use Rattle.btf_view.proofs.Walking.{there, missing, as_many, one, find_size, size_found, times_fit, ends_with_bytes, ends_at_product}
 use Rattle.btf_view.proofs.sizing.size_of.Goals as goal
 

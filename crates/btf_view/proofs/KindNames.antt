@@ -1,0 +1,66 @@
+-- A kind of the code has one kind of the definitions.
+use Rattle.std.proofs.Common.{◌≡◌, ◌≢◌, ◌∙◌, ◌+◌, ℕ, zero, suc, List, [], ◌∷◌, Some, None, refl, sym, ap, arith}
+use Rattle.std.specs.Prelude.{map, slice_get}
+use Rattle.std.proofs.lemmas.Option.{same_Some, slice_get_within, slice_get-map}
+use Rattle.std.specs.Option.{option_map}
+use Rattle.btf_model.specs.Record as model
+use Rattle.btf_model.specs.Record.{Kind, Record, kind_number, kind_of}
+use Rattle.btf_plain.specs.Kind.{kind}
+use Rattle.btf_plain.specs.declared.kind.BtfKind.{BtfKind}
+use Rattle.btf_plain.specs.declared.kind.BtfKind.TheVariants as code
+use Rattle.btf_view.specs.Forms.{members}
+
+abbrev number_of : Kind → ℕ
+number_of model.Unknown = 0
+number_of model.Int = 1
+number_of model.Ptr = 2
+number_of model.Array = 3
+number_of model.Struct = 4
+number_of model.Union = 5
+number_of model.Enum = 6
+number_of model.Fwd = 7
+number_of model.Typedef = 8
+number_of model.Volatile = 9
+number_of model.Const = 10
+number_of model.Restrict = 11
+number_of model.Func = 12
+number_of model.FuncProto = 13
+number_of model.Var = 14
+number_of model.DataSec = 15
+number_of model.Float = 16
+number_of model.DeclTag = 17
+number_of model.TypeTag = 18
+number_of model.Enum64 = 19
+
+-- the kinds have the numbers of their places
+places : ℕ → List Kind → List ℕ
+places i [] = []
+places i (k ∷ ks) = i ∷ places (suc i) ks
+
+place_is : (i : ℕ) (ks : List Kind) (n m : ℕ) → slice_get (places i ks) n ≡ Some m → i + n ≡ m
+unfolding places
+place_is i [] n m is = absurd (omega (arith, slice_get_within [] n m is))
+place_is i (k ∷ ks) zero m is = omega (arith, same_Some i m is)
+place_is i (k ∷ ks) (suc n) m is = omega (arith, place_is (suc i) ks n m is)
+
+numbers : map number_of model.kinds ≡ places 0 model.kinds
+unfolding places
+numbers = refl
+
+-- the place of a kind is its number
+placed_kind : (n : ℕ) (k : Kind) → slice_get model.kinds n ≡ Some k → 0 + n ≡ number_of k
+placed_kind n k is = place_is 0 model.kinds n (number_of k) (ap (λ (xs : List ℕ). slice_get xs n) (sym numbers) ∙ slice_get-map number_of model.kinds n ∙ ap (option_map number_of) is)
+
+-- a kind has one number
+pub one_number : (n m : ℕ) (k : Kind) → slice_get model.kinds n ≡ Some k → slice_get model.kinds m ≡ Some k → n ≡ m
+one_number n m k a b = omega (arith, placed_kind n k a, placed_kind m k b)
+
+-- the kind in an info word
+pub kind_in : (info number : ℕ) (k : BtfKind) → slice_get model.kinds number ≡ Some (kind k) → number ≡ kind_number info → kind_of info ≡ Some (kind k)
+kind_in info number k there is = ap (slice_get model.kinds) (sym is) ∙ there
+
+-- the kinds without members
+pub no_members : (k : BtfKind) (r : Record) → k ≢ code.Struct → k ≢ code.Union → members (kind k) r ≡ None
+no_members code.Struct r s u = absurd (s refl)
+no_members code.Union r s u = absurd (u refl)
+no_members k r s u = refl
