@@ -12,7 +12,7 @@ ghost use Rattle.btf_records.specs.BtfType.{record_of, type_kind};
 ghost use Rattle.btf_compare.specs.Compared.{AreAt, WalksTo, ComesTo, IsFound, AfterStep, AfterSteps, NextParameterIs, frame_of, passed_in};
 ghost use Rattle.btf_compare.specs.Pairs.{pair_of};
 
-use crate::position::{Position, ProtoPair, found_at, is_modifier, types_at};
+use crate::position::{Position, ProtoPair, position_at, is_modifier, types_at};
 use btf_plain::BtfError;
 use btf_records::BtfType;
 use btf_table::{Btf, WALK_LIMIT};
@@ -162,7 +162,7 @@ impl Frame {
         ensures pair { self.new.pair ≡ self.old.pair }
     {
         'positions: while self.taken < POSITIONS {
-            if let Some(end) = self.step(found_at(local, target, self.at), passed) {
+            if let Some(end) = self.step(position_at(local, target, self.at), passed) {
                 return end;
             }
         }
@@ -185,7 +185,7 @@ impl Frame {
         let Some(at) = found.parameters_at(self.parameter as usize) else {
             return Ok(None);
         };
-        let pair = resolved_ids(local, target, at)?;
+        let pair = resolve_ids(local, target, at)?;
         self.parameter += 1;
         Ok(Some(pair))
     }
@@ -203,7 +203,7 @@ impl Frame {
 
 /// The ids that two ids resolve to, the local one first.
 #[inline(always)]
-fn resolved_ids(local: &Btf, target: &Btf, at: (u32, u32)) -> Result<(u32, u32), BtfError>
+fn resolve_ids(local: &Btf, target: &Btf, at: (u32, u32)) -> Result<(u32, u32), BtfError>
     ensures { Meets pair_of result (ResolvesPair local.now target.now (pair_of at)) }
 {
     let local_id = local.resolve_type(at.0)?;

@@ -10,7 +10,7 @@ ghost use Rattle.btf_elf.specs.Writing.{replace_error, HasReplaced};
 
 use crate::error::{ObjectError, ReplaceError};
 use crate::header::{check_header, read_header};
-use crate::replace::{aligned_end, fits, is_replaceable, rewritten};
+use crate::replace::{aligned_end, fits, is_replaceable, write_replaced};
 use crate::section::{check_sections, contents};
 use crate::strings::{has_name, name_at, read_names, short_name};
 use crate::symbols::{SymbolTable, check_symbols, read_symbols, symbol};
@@ -210,7 +210,7 @@ impl<'a> Object<'a> {
         if offset.checked_add(given.len() as u64).is_none() {
             return Err(ReplaceError::OutOfMemory);
         }
-        let file = rewritten(alloc, &self.header, self.bytes, index, offset, given)?;
+        let file = write_replaced(alloc, &self.header, self.bytes, index, offset, given)?;
         Ok(file)
     }
 }

@@ -54,7 +54,7 @@ impl Header {
         if data.len() < hdr_len {
             return Err(BtfError::InvalidHeader);
         }
-        let bytes = filled_up(&data[..hdr_len.min(HEADER_LEN)]);
+        let bytes = pad(&data[..hdr_len.min(HEADER_LEN)]);
         Ok(Header::of_bytes(&bytes, endianness))
     }
 
@@ -88,7 +88,7 @@ impl Header {
 }
 
 /// Bytes, padded with zeros.
-fn filled_up(given: &[u8]) -> [u8; 32]
+fn pad(given: &[u8]) -> [u8; 32]
     requires { length given.now ≤ 32 }
     ensures { result ≡ given.now ++ replicate (32 - length given.now) 0 }
 {

@@ -13,7 +13,7 @@ ghost use Rattle.btf_object.specs.Kernel.{kernel_has};
 
 use crate::error::SanitizeError;
 use crate::kernel::Kernel;
-use crate::table::{finalized, rewritten};
+use crate::table::{finalize_table, rewrite_table};
 use arrayvec::ArrayVec;
 use btf_elf::Object;
 use btf_rewrite_model::{FeatureAnswer, FillPolicy};
@@ -107,7 +107,7 @@ pub fn sanitize_parsed<H: BuildHasher + Clone + Drop>(
     let Some((index, table)) = table_section(object) else {
         return Err(SanitizeError::NoTable);
     };
-    let (written, answers) = rewritten(
+    let (written, answers) = rewrite_table(
         alloc,
         object,
         table,
@@ -175,6 +175,6 @@ pub fn sanitize_parsed_finalized<H: BuildHasher + Clone + Drop>(
     let Some((index, table)) = table_section(object) else {
         return Err(SanitizeError::NoTable);
     };
-    let (written, answers) = finalized(alloc, object, table, kernel, hash_builder)?;
+    let (written, answers) = finalize_table(alloc, object, table, kernel, hash_builder)?;
     Ok((object.with_section(alloc, index, &written)?, answers))
 }

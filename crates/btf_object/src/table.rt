@@ -63,7 +63,7 @@ fn rewrite_for<H: BuildHasher>(
 /// Parses the bytes of a section of an object as a table, in the object's byte order, and rewrites the table for a
 /// kernel. Returns the bytes of the new table, and the features that the rewrite asked for, with the answers.
 /// `hash_builder` hashes the names of the object.
-pub fn rewritten<H: BuildHasher + Clone + Drop>(
+pub fn rewrite_table<H: BuildHasher + Clone + Drop>(
     alloc: Global,
     object: &Object<'_>,
     table: &[u8],
@@ -88,7 +88,7 @@ pub fn rewritten<H: BuildHasher + Clone + Drop>(
 /// Parses the bytes of a section of an object as a table, in the object's byte order, makes of it what libbpf has of it
 /// when it has opened the object, and rewrites it for a kernel. Returns the bytes of the new table, and the features
 /// that the rewrite asked for, with the answers. `hash_builder` hashes the names of the object.
-pub fn finalized<H: BuildHasher + Clone + Drop>(
+pub fn finalize_table<H: BuildHasher + Clone + Drop>(
     alloc: Global,
     object: &Object<'_>,
     table: &[u8],

@@ -38,7 +38,7 @@ fn walk_error(error: &BtfError, type_id: u32) -> RelocationError
 }
 
 /// The id that an id resolves to.
-pub fn resolved(table: &Btf, type_id: u32) -> Result<u32, RelocationError>
+pub fn resolve_id(table: &Btf, type_id: u32) -> Result<u32, RelocationError>
     ensures { result ≡ model.resolved table.now type_id }
 {
     match table.resolve_type(type_id) {
@@ -48,13 +48,13 @@ pub fn resolved(table: &Btf, type_id: u32) -> Result<u32, RelocationError>
 }
 
 /// The type that an id resolves to.
-pub fn resolved_type(table: &Btf, type_id: u32) -> Result<&BtfType, RelocationError>
+pub fn resolve_to_type(table: &Btf, type_id: u32) -> Result<&BtfType, RelocationError>
     ensures { MatchResult result
         (λ t. (model.resolved_record table.now type_id ≡ Ok (record_of t.now))
         × (kind_of (record_of t.now).info ≡ Some (type_kind t.now)))
         (λ e. model.resolved_record table.now type_id ≡ Err e) }
 {
-    let id = resolved(table, type_id)?;
+    let id = resolve_id(table, type_id)?;
     type_at(table, id)
 }
 

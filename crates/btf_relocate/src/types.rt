@@ -15,7 +15,7 @@ use btf_relocate_model::{Pair, RelocationError, Rule};
 use btf_table::{Btf, WALK_LIMIT};
 use std::alloc::Global;
 use std::collections::BTreeMap;
-use walk::{Next, next_step, resolved_pair};
+use walk::{Next, next_step, resolve_pair};
 
 /// A comparison that has begun: the walk over pointees, elements and return types from a pair on.
 #[derive(Clone, Copy, Debug)]
@@ -129,7 +129,7 @@ fn ask(
     ensures { IsAsked (comparison rule local.now target.now) pair.now progress.old progress.new
         result }
 {
-    let start = resolved_pair(rule, local, target, pair)?;
+    let start = resolve_pair(rule, local, target, pair)?;
     match progress.pairs.get(&start).copied() {
         Some(Some(is_alike)) => Ok(Some(is_alike)),
         Some(None) => Err(RelocationError::MaximumTypeDepthReached {

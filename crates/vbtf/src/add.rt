@@ -9,7 +9,7 @@ ghost use Rattle.vbtf.specs.Orders.{order_named};
 
 use crate::fault::{CLOSED, Fault, INVALID_ARGUMENT, report};
 use crate::handle::{Handle, owner, taken_to_change};
-use crate::orders::named_order;
+use crate::orders::order_of;
 use btf::{Btf, BtfError, BtfType, Endianness};
 use std::alloc::Global;
 
@@ -71,7 +71,7 @@ pub extern "C" fn vbtf_raw_add_type(
         → (result ≡ CLOSED) × (table.new ≡ table.old) }
     ensures order { 1 < order → (result ≡ INVALID_ARGUMENT) × (table.new ≡ table.old) }
 {
-    let Some(endianness) = named_order(order) else {
+    let Some(endianness) = order_of(order) else {
         return INVALID_ARGUMENT;
     };
     let Some(mut whole) = taken_to_change(alloc, table) else {

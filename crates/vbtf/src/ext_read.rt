@@ -11,7 +11,7 @@ ghost use Rattle.vbtf.specs.ExtRead.{NamesOf, ListsNames, HasSectionName, Record
 ghost use Rattle.vbtf.specs.Status.{EndsFilling, KeepsHandle};
 
 use crate::fault::{CLOSED, Fault, INVALID_ARGUMENT, NO_ITEM, report};
-use crate::handle::{Handle, lent};
+use crate::handle::{Handle, take_loan};
 use crate::opened::{KeyedExt, Opened};
 use crate::seed::Keys;
 use crate::write::fill;
@@ -42,7 +42,7 @@ pub extern "C" fn vbtf_lent_ext_names(
     ensures closed { table.old.state ≢ 2 → (result ≡ CLOSED) × (out.new ≡ out.old) }
     ensures kept { KeepsHandle table.old table.new }
 {
-    let Some(loan) = lent(table) else {
+    let Some(loan) = take_loan(table) else {
         return CLOSED;
     };
     let status = write_names(alloc, loan.get(), part, out, needed, fault);
@@ -63,7 +63,7 @@ pub extern "C" fn vbtf_lent_ext_section(table: &mut Handle, index: u32, name: &m
     ensures closed { table.old.state ≢ 2 → result ≡ CLOSED }
     ensures kept { KeepsHandle table.old table.new }
 {
-    let Some(loan) = lent(table) else {
+    let Some(loan) = take_loan(table) else {
         return CLOSED;
     };
     let status = write_section(loan.get(), index, name);
@@ -103,7 +103,7 @@ pub extern "C" fn vbtf_lent_ext_records(
     let Ok(name) = str::from_utf8(name) else {
         return INVALID_ARGUMENT;
     };
-    let Some(loan) = lent(table) else {
+    let Some(loan) = take_loan(table) else {
         return CLOSED;
     };
     let status = write_records(loan.get(), part, name, out, needed, fault);
@@ -140,7 +140,7 @@ pub extern "C" fn vbtf_lent_ext_relocations(
     let Ok(name) = str::from_utf8(name) else {
         return INVALID_ARGUMENT;
     };
-    let Some(loan) = lent(table) else {
+    let Some(loan) = take_loan(table) else {
         return CLOSED;
     };
     let status = write_relocations(alloc, loan.get(), name, out, needed, fault);

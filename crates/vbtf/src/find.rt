@@ -12,7 +12,7 @@ ghost use Rattle.vbtf.specs.Finding.{FindsFrom, IsSought, IsWanted, asked_kind};
 ghost use Rattle.vbtf.specs.Status.{EndsOrNoMemory, KeepsHandle};
 
 use crate::fault::{CLOSED, Fault, INVALID_ARGUMENT, report};
-use crate::handle::{Handle, lent};
+use crate::handle::{Handle, take_loan};
 use btf::{Btf, BtfError, BtfKind, BtfType};
 use btf_table::{allocator_of, comparable_end, is_named, type_count};
 
@@ -43,7 +43,7 @@ pub extern "C" fn vbtf_lent_find_from(
     ensures closed { table.old.state ≢ 2 → result ≡ CLOSED }
     ensures kept { KeepsHandle table.old table.new }
 {
-    let Some(loan) = lent(table) else {
+    let Some(loan) = take_loan(table) else {
         return CLOSED;
     };
     let answer = find(&loan.get().btf, name, kind, first);

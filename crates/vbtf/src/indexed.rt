@@ -11,7 +11,7 @@ ghost use Rattle.vbtf.specs.IndexFinding.{FindsIndexed, FindsIndexPlace, IsNamed
 ghost use Rattle.vbtf.specs.Status.{EndsOrNoMemory, KeepsHandle};
 
 use crate::fault::{CLOSED, Fault, INVALID_ARGUMENT, report};
-use crate::handle::{Handle, lent};
+use crate::handle::{Handle, take_loan};
 use crate::opened::Opened;
 use btf::{Btf, BtfError, BtfKind};
 use btf_relocate::Target;
@@ -46,7 +46,7 @@ pub extern "C" fn vbtf_lent_index_find(
     ensures closed { table.old.state ≢ 2 → result ≡ CLOSED }
     ensures kept { KeepsHandle table.old table.new }
 {
-    let Some(loan) = lent(table) else {
+    let Some(loan) = take_loan(table) else {
         return CLOSED;
     };
     let status = find_in(alloc, loan.get(), name, kind, id, fault);

@@ -11,7 +11,7 @@ ghost use Rattle.vbtf.specs.Status.{EndsCall, EndsOrNoMemory, KeepsHandle};
 ghost use Rattle.vbtf.specs.TypeWords.{WordsOf, words_in};
 
 use crate::fault::{CLOSED, Fault, INVALID_ARGUMENT, report};
-use crate::handle::{Handle, lent};
+use crate::handle::{Handle, take_loan};
 use btf::{Btf, BtfError, BtfKind, BtfType};
 
 /// The number of types of a table, including the type of id 0.
@@ -24,7 +24,7 @@ pub extern "C" fn vbtf_lent_count(table: &mut Handle, count: &mut u64) -> u32
     ensures closed { table.old.state ≢ 2 → result ≡ CLOSED }
     ensures kept { KeepsHandle table.old table.new }
 {
-    let Some(loan) = lent(table) else {
+    let Some(loan) = take_loan(table) else {
         return CLOSED;
     };
     *count = count_of(&loan.get().btf);
@@ -69,7 +69,7 @@ pub extern "C" fn vbtf_lent_type(
     ensures closed { table.old.state ≢ 2 → result ≡ CLOSED }
     ensures kept { KeepsHandle table.old table.new }
 {
-    let Some(loan) = lent(table) else {
+    let Some(loan) = take_loan(table) else {
         return CLOSED;
     };
     let answer = words_of(&loan.get().btf, id);
@@ -105,7 +105,7 @@ pub extern "C" fn vbtf_lent_find(
     ensures closed { table.old.state ≢ 2 → result ≡ CLOSED }
     ensures kept { KeepsHandle table.old table.new }
 {
-    let Some(loan) = lent(table) else {
+    let Some(loan) = take_loan(table) else {
         return CLOSED;
     };
     let answer = find(&loan.get().btf, name, kind);

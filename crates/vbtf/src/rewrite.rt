@@ -60,7 +60,7 @@ pub extern "C" fn vbtf_raw_rewrite(
     ensures kept { result ≡ 0 → KeepsMeaning table.old.opened.btf table.new.opened.btf }
 {
     asked.list(&[]);
-    if table.seen() != OWNED {
+    if table.read_state() != OWNED {
         return CLOSED;
     }
     let keys = Keys { seed };
@@ -72,7 +72,7 @@ pub extern "C" fn vbtf_raw_rewrite(
     let Some(mut whole) = taken_to_change(alloc, table) else {
         return CLOSED;
     };
-    let answer = rewritten(&mut whole.btf, &program, kernel, asked);
+    let answer = rewrite(&mut whole.btf, &program, kernel, asked);
     *table = owner(whole);
     match answer {
         Ok(_) => 0,
@@ -82,7 +82,7 @@ pub extern "C" fn vbtf_raw_rewrite(
 
 /// Rewrites a table for a kernel. Returns the answers that it got, and reports them, also after an error. An error
 /// leaves the table unchanged.
-fn rewritten(
+fn rewrite(
     btf: &mut Btf,
     program: &Program,
     kernel: &Kernel,

@@ -8,9 +8,9 @@ ghost use Rattle.vbtf.specs.Changing.{EndsChanging};
 ghost use Rattle.vbtf.specs.Status.{EndsFilling, KeepsHandle, Opens};
 
 use crate::fault::{CLOSED, Fault, INVALID_ARGUMENT, report};
-use crate::handle::{Handle, lent, owner, taken_to_change};
-use crate::open::boxed;
-use crate::orders::chosen_order;
+use crate::handle::{Handle, take_loan, owner, taken_to_change};
+use crate::open::box_table;
+use crate::orders::choose_order;
 use crate::write::fill;
 use btf::Btf;
 use btf_split::{append_split, parse_split, split_bytes, string_len, truncate};
@@ -45,7 +45,7 @@ pub extern "C" fn vbtf_lent_parse_over(
     ensures closed { base.old.state ≢ 2 → (result ≡ CLOSED) × (table.new ≡ table.old) }
     ensures kept { KeepsHandle base.old base.new }
 {
-    let Some(loan) = lent(base) else {
+    let Some(loan) = take_loan(base) else {
         return CLOSED;
     };
     let status = open_over(alloc, &loan.get().btf, table, data, order, fault);
@@ -71,13 +71,13 @@ fn open_over(
     ensures open { table.old.state ≢ 0 → (result ≡ INVALID_ARGUMENT) × (table.new ≡ table.old) }
     ensures order { 2 < order → (result ≡ INVALID_ARGUMENT) × (table.new ≡ table.old) }
 {
-    let Some(endianness) = chosen_order(order, data) else {
+    let Some(endianness) = choose_order(order, data) else {
         return INVALID_ARGUMENT;
     };
-    if table.seen() != 0 {
+    if table.read_state() != 0 {
         return INVALID_ARGUMENT;
     }
-    match boxed(alloc, parse_split(alloc, base, data, endianness)) {
+    match box_table(alloc, parse_split(alloc, base, data, endianness)) {
         Ok(whole) => {
             *table = owner(whole);
             0
@@ -107,7 +107,7 @@ pub extern "C" fn vbtf_lent_split_bytes(
     ensures closed { table.old.state ≢ 2 → (result ≡ CLOSED) × (out.new ≡ out.old) }
     ensures kept { KeepsHandle table.old table.new }
 {
-    let Some(loan) = lent(table) else {
+    let Some(loan) = take_loan(table) else {
         return CLOSED;
     };
     let status = write_above(
@@ -150,7 +150,7 @@ pub extern "C" fn vbtf_lent_string_len(table: &mut Handle, len: &mut u32) -> u32
     ensures closed { table.old.state ≢ 2 → result ≡ CLOSED }
     ensures kept { KeepsHandle table.old table.new }
 {
-    let Some(loan) = lent(table) else {
+    let Some(loan) = take_loan(table) else {
         return CLOSED;
     };
     *len = string_len(&loan.get().btf);
@@ -178,7 +178,7 @@ pub extern "C" fn vbtf_raw_append_split(
         → (result ≡ CLOSED) × (table.new ≡ table.old) }
     ensures order { 2 < order → (result ≡ INVALID_ARGUMENT) × (table.new ≡ table.old) }
 {
-    let Some(data_order) = chosen_order(order, data) else {
+    let Some(data_order) = choose_order(order, data) else {
         return INVALID_ARGUMENT;
     };
     let Some(mut whole) = taken_to_change(alloc, table) else {

@@ -8,7 +8,7 @@ ghost use Rattle.vbtf.specs.Resolved.{EndsResolving, ReportsRelocation, Resolves
 ghost use Rattle.vbtf.specs.Status.{KeepsHandle};
 
 use crate::fault::{CLOSED, Fault, INVALID_ARGUMENT, OUT_OF_MEMORY, report, report_number};
-use crate::handle::{Handle, lent, owner, taken, taken_to_change};
+use crate::handle::{Handle, take_loan, owner, take_table, taken_to_change};
 use crate::opened::Opened;
 use crate::refused::report_refused;
 use btf::{Btf, BtfError};
@@ -59,7 +59,7 @@ pub extern "C" fn vbtf_raw_target_open(alloc: Global, table: &mut Handle, fault:
     ensures opened { table.old.state ≡ 1 → EndsIndexing result table.old table.new fault.new }
     ensures closed { table.old.state ≢ 1 → (result ≡ CLOSED) × (table.new ≡ table.old) }
 {
-    let Some(mut whole) = taken(alloc, table) else {
+    let Some(mut whole) = take_table(alloc, table) else {
         return CLOSED;
     };
     let answer = add_index(alloc, &mut whole);
@@ -110,10 +110,10 @@ pub extern "C" fn vbtf_lent_relocate(
     ensures kept_local { KeepsHandle local.old local.new }
     ensures kept_target { KeepsHandle target.old target.new }
 {
-    let Some(first) = lent(local) else {
+    let Some(first) = take_loan(local) else {
         return CLOSED;
     };
-    let Some(second) = lent(target) else {
+    let Some(second) = take_loan(target) else {
         *local = Handle::from_loan(first);
         return CLOSED;
     };
@@ -165,7 +165,7 @@ fn relocate_one(
         return CLOSED;
     };
     let target = Target::with_index(&opened.btf, index);
-    match resolved(alloc, local, &target, relocation) {
+    match resolve(alloc, local, &target, relocation) {
         Ok(resolved) => {
             *relocated = Relocated::of(resolved);
             0
@@ -175,7 +175,7 @@ fn relocate_one(
 }
 
 /// What a record asks to be written.
-fn resolved(
+fn resolve(
     alloc: Global,
     local: &Btf,
     target: &Target<'_>,

@@ -7,7 +7,7 @@ ghost use Rattle.btf_model.specs.Text.{bytes_at, text_at};
 ghost use Rattle.vbtf.specs.Status.{Fills, EndsFilling, FillsOrReports, KeepsHandle};
 
 use crate::fault::{CLOSED, Fault, NO_ROOM, report};
-use crate::handle::{Handle, lent};
+use crate::handle::{Handle, take_loan};
 use btf::Btf;
 
 /// Writes the text at a string offset to a buffer, without a zero byte after it, and its length in bytes to `needed`.
@@ -32,7 +32,7 @@ pub extern "C" fn vbtf_lent_text(
     ensures closed { table.old.state ≢ 2 → (result ≡ CLOSED) × (out.new ≡ out.old) }
     ensures kept { KeepsHandle table.old table.new }
 {
-    let Some(loan) = lent(table) else {
+    let Some(loan) = take_loan(table) else {
         return CLOSED;
     };
     let status = write_text(&loan.get().btf, offset, out, needed, fault);
@@ -56,7 +56,7 @@ pub extern "C" fn vbtf_lent_bytes(
     ensures closed { table.old.state ≢ 2 → (result ≡ CLOSED) × (out.new ≡ out.old) }
     ensures kept { KeepsHandle table.old table.new }
 {
-    let Some(loan) = lent(table) else {
+    let Some(loan) = take_loan(table) else {
         return CLOSED;
     };
     let status = write_bytes(&loan.get().btf, out, needed, fault);

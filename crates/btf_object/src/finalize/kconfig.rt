@@ -137,7 +137,7 @@ fn externs_of<'a>(
 }
 
 /// The entries of externs, one after another, and their total size; None if the size exceeds 32 bits.
-fn laid_out(
+fn lay_out(
     alloc: Global,
     externs: &[Extern<'_>],
 ) -> Result<Option<(Vec<DataSecEntry>, u32)>, AllocError>
@@ -165,7 +165,7 @@ fn laid_out(
 
 /// A DATASEC with its externs in order, or None if it has a size or cannot be laid out. `OutOfMemory` is the only
 /// error.
-fn laid_out_section(
+fn lay_out_section(
     alloc: Global,
     btf: &Btf,
     data_sec: &DataSec,
@@ -182,7 +182,7 @@ fn laid_out_section(
         return Ok(None);
     };
     externs.sort_by_key(|it| (Reverse(it.value.alignment), it.value.size, it.name))?;
-    let Some((entries, size)) = laid_out(alloc, &externs)? else {
+    let Some((entries, size)) = lay_out(alloc, &externs)? else {
         return Ok(None);
     };
     Ok(Some(DataSec::new(data_sec.name_offset(), entries, size)))
@@ -236,7 +236,7 @@ pub fn configure(alloc: Global, btf: &mut Btf) -> Result<(), BtfError>
     let Some(found) = data_sec(btf, type_id) else {
         return Ok(());
     };
-    let Some(section) = laid_out_section(alloc, btf, found)? else {
+    let Some(section) = lay_out_section(alloc, btf, found)? else {
         return Ok(());
     };
     put_section(btf, type_id, section);

@@ -50,7 +50,7 @@ fn entry_offset<H: BuildHasher>(
 }
 
 /// The entries at their offsets, or None if one of the offsets is not known. `OutOfMemory` is the only error.
-fn placed_entries<H: BuildHasher>(
+fn place_entries<H: BuildHasher>(
     alloc: Global,
     btf: &Btf,
     layout: &ObjectLayout<H>,
@@ -102,7 +102,7 @@ fn copied(alloc: Global, entries: &[DataSecEntry]) -> Result<Vec<DataSecEntry>, 
 
 /// The size and the entries of a DATASEC of size 0 that is completed; None for another DATASEC. `OutOfMemory` is the
 /// only error.
-fn completed<H: BuildHasher>(
+fn complete<H: BuildHasher>(
     alloc: Global,
     btf: &Btf,
     layout: &ObjectLayout<H>,
@@ -126,7 +126,7 @@ fn completed<H: BuildHasher>(
     let Some(size) = names.size(btf, layout, data_sec.name_offset())? else {
         return Ok(None);
     };
-    let Some(entries) = placed_entries(alloc, btf, layout, names, data_sec)? else {
+    let Some(entries) = place_entries(alloc, btf, layout, names, data_sec)? else {
         return Ok(None);
     };
     Ok(Some((size, entries)))
@@ -150,7 +150,7 @@ fn size_and_entries<H: BuildHasher>(
         names.new) }
     ensures memory { IfErr result (λ e. e ≡ BtfError.OutOfMemory) }
 {
-    match completed(alloc, btf, layout, names, data_sec)? {
+    match complete(alloc, btf, layout, names, data_sec)? {
         Some(parts) => Ok(parts),
         None => Ok((data_sec.size(), copied(alloc, data_sec.entries())?)),
     }

@@ -10,7 +10,7 @@ ghost use Rattle.btf_relocate.specs.Steps.{comparison, enumeration_size, step_vi
 use super::names::{enumerators_match, names_match};
 use crate::field::members;
 use crate::lookup::type_at;
-use crate::target::compared_number;
+use crate::target::comparison_number;
 use crate::value::is_signed;
 use btf_plain::{BtfMember, BtfParam, FuncProto};
 use btf_records::BtfType;
@@ -81,7 +81,7 @@ fn compatible_step<'t>(is_pointee: bool, one: &'t BtfType, other: &'t BtfType) -
     ensures { step_view result
         ≡ model.compatible_step is_pointee (record_of one.now) (record_of other.now) }
 {
-    if compared_number(one.kind()) != compared_number(other.kind()) {
+    if comparison_number(one.kind()) != comparison_number(other.kind()) {
         return Step::Ends(false);
     }
     // Only a use of the kinds proves that the info words have them.
@@ -186,12 +186,12 @@ fn matches_step<'t>(is_pointee: bool, one: &'t BtfType, other: &'t BtfType) -> S
             }
             Step::GoesOn(pair(is_pointee, array.element_type, other_array.element_type))
         }
-        _ => declared_step(is_pointee, one, other),
+        _ => step_of_declared(is_pointee, one, other),
     }
 }
 
 /// What the rule `Matches` finds at two types of which none or one is a STRUCT, a UNION or a FWD, or both are.
-fn declared_step<'t>(is_pointee: bool, one: &'t BtfType, other: &'t BtfType) -> Step<'t>
+fn step_of_declared<'t>(is_pointee: bool, one: &'t BtfType, other: &'t BtfType) -> Step<'t>
     ensures { step_view result ≡ model.declared_by is_pointee (kind_of (record_of one.now).info)
         (kind_of (record_of other.now).info) (record_of one.now) (record_of other.now) }
 {

@@ -10,7 +10,7 @@ ghost use Rattle.btf_relocate.specs.Steps.{Compare, Continues, NamedMember, Next
 use super::Frame;
 use super::names::names_match;
 use super::steps::{Step, step_at};
-use crate::lookup::resolved;
+use crate::lookup::resolve_id;
 use btf_plain::{BtfMember, BtfParam};
 use btf_relocate_model::{Pair, RelocationError, Rule};
 use btf_table::Btf;
@@ -29,7 +29,7 @@ pub enum Next {
 }
 
 /// The pair of the types that two ids resolve to.
-pub fn resolved_pair(
+pub fn resolve_pair(
     rule: Rule,
     local: &Btf,
     target: &Btf,
@@ -37,8 +37,8 @@ pub fn resolved_pair(
 ) -> Result<Pair, RelocationError>
     ensures { result ≡ model.resolved_pair (comparison rule local.now target.now) pair.now }
 {
-    let id = resolved(local, pair.local)?;
-    let other = resolved(target, pair.target)?;
+    let id = resolve_id(local, pair.local)?;
+    let other = resolve_id(target, pair.target)?;
     Ok(Pair {
         local: id,
         target: other,
@@ -63,7 +63,7 @@ pub fn next_step(
             type_id: frame.start.local,
         });
     }
-    let at = resolved_pair(rule, local, target, &frame.at)?;
+    let at = resolve_pair(rule, local, target, &frame.at)?;
     match step_at(alloc, rule, local, target, &at)? {
         Step::Ends(is_alike) => Ok(Next::Ends(is_alike)),
         Step::GoesOn(pair) => Ok(Next::GoesOn(pair)),
@@ -127,7 +127,7 @@ fn next_member(
     let Some(member) = members.get(index) else {
         return Ok(Next::Ends(true));
     };
-    match named_member(local, target, member, others, from)? {
+    match match_member(local, target, member, others, from)? {
         Some((other, after)) => {
             let pair = Pair {
                 local: member.btf_type,
@@ -142,7 +142,7 @@ fn next_member(
 
 /// The type of the first member of the target from an index on that has the name of a local member, and the index after
 /// it.
-fn named_member(
+fn match_member(
     local: &Btf,
     target: &Btf,
     member: &BtfMember,

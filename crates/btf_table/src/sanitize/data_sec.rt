@@ -29,7 +29,7 @@ ghost use Rattle.btf_table.specs.PassStep.{Given, pass_on, given_by, AsksInPass,
 ghost use Rattle.btf_table.specs.SectionStep.{HasNewName, final_size, is_fillable, asks_zero};
 ghost use Rattle.btf_records.specs.declared.btf_type.BtfType.{BtfType};
 
-use crate::sanitize::data_sec::entries::{members, placed_entries};
+use crate::sanitize::data_sec::entries::{members, place_entries};
 pub use crate::sanitize::data_sec::layout::known_offset;
 use crate::sanitize::data_sec::layout::section_size;
 use crate::sanitize::data_sec::name::new_name;
@@ -91,10 +91,10 @@ pub fn rewrite_section<F: FnMut(BtfFeature) -> bool, G: BuildHasher, H: BuildHas
     }
     let size = final_size(btf, request.sections, &mut names.sizes, data_sec)?;
     if wants_filler(data_sec, size, request.policy, resolver) {
-        return filled(made, btf, name_offset, size);
+        return fill(made, btf, name_offset, size);
     }
     if data_sec.size() != 0 {
-        return renamed(data_sec, name_offset);
+        return rename(data_sec, name_offset);
     }
     with_symbol_offsets(btf, request.symbols, names, data_sec, name_offset, size)
 }
@@ -193,7 +193,7 @@ fn wants_filler<F: FnMut(BtfFeature) -> bool>(
 ///
 /// Fails with `InvalidStringOffset` or `InvalidTypeInfo` if the filler does not fit in the strings or the types, and
 /// with `InvalidTypeInfo` if the entry does not fit in the types.
-fn filled(
+fn fill(
     made: &mut Made,
     btf: &Btf,
     name_offset: u32,
@@ -221,7 +221,7 @@ fn filled(
 }
 
 /// The DATASEC with this name; None if it already has this name.
-fn renamed(data_sec: &DataSec, name_offset: u32) -> Result<Option<BtfType>, BtfError>
+fn rename(data_sec: &DataSec, name_offset: u32) -> Result<Option<BtfType>, BtfError>
     ensures answer { IsOrNoMemory
         (λ new. record_of (unwrap_or new (BtfType.DataSec data_sec.now))) result
         (Ok (record data_sec.now { name = name_offset })) }
@@ -265,6 +265,6 @@ fn with_symbol_offsets<H: BuildHasher>(
         × (names.new.kept ≡ names.old.kept) × (names.new.sizes ≡ names.old.sizes) }
 {
     let end = names.readable_end;
-    let entries = placed_entries(btf, symbols, end, &mut names.offsets, data_sec)?;
+    let entries = place_entries(btf, symbols, end, &mut names.offsets, data_sec)?;
     Ok(Some(BtfType::DataSec(DataSec::new(name_offset, entries, size))))
 }

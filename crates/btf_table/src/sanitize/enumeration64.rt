@@ -70,7 +70,7 @@ fn as_union(alloc: Global, enum64: &Enum64, member_type: u32) -> Result<Union, B
     let members = variant_members(alloc, enum64.variants(), member_type)?;
     let fallback = Enum64Fallback {
         signed: enum64.is_signed(),
-        variants: kept_variants(alloc, enum64.variants())?,
+        variants: fallback_variants(alloc, enum64.variants())?,
     };
     Ok(Union::new(enum64.name_offset(), enum64.size(), members, Some(fallback)))
 }
@@ -97,7 +97,7 @@ fn variant_members(
 }
 
 /// The variants, each with its 64-bit value in one number.
-fn kept_variants(
+fn fallback_variants(
     alloc: Global,
     variants: &[BtfEnum64],
 ) -> Result<Vec<Enum64VariantFallback>, AllocError>

@@ -77,7 +77,7 @@ impl<F: FnMut(BtfFeature) -> bool> BtfFeatureResolver<F> {
 }
 
 /// A copy of a resolver's answers so far. It does not borrow the resolver, and allocates only room for eight answers.
-pub fn copied_answers<F>(
+pub fn copy_answers<F>(
     resolver: &BtfFeatureResolver<F>,
 ) -> Result<ArrayVec<FeatureAnswer, 8>, AllocError>
     ensures { IfOk result (λ a. a.items ≡ resolver.now.answers) }

@@ -59,12 +59,12 @@ pub fn rewrite_func<F: FnMut(BtfFeature) -> bool>(
         return Ok(Outcome::Same);
     };
     if is_builtin(btf.strings_from(name_offset)) {
-        return Ok(Outcome::Other(BtfType::Func(made_static(func)?)));
+        return Ok(Outcome::Other(BtfType::Func(make_static(func)?)));
     }
     if resolver.is_supported(BtfFeature::FuncGlobal) {
         return Ok(Outcome::Same);
     }
-    Ok(Outcome::Other(BtfType::Func(made_static(func)?)))
+    Ok(Outcome::Other(BtfType::Func(make_static(func)?)))
 }
 
 /// Whether the name at the front of these strings is the name of a function that compilers emit as Global, and that
@@ -79,7 +79,7 @@ fn is_builtin(strings: &[u8]) -> bool
 }
 
 /// The function with Static linkage.
-fn made_static(func: &Func) -> Result<Func, AllocError>
+fn make_static(func: &Func) -> Result<Func, AllocError>
     ensures { IfOk result (λ r. r ≡ with_linkage 0 func.now) }
 {
     let mut func = func.clone()?;

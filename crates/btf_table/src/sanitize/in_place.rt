@@ -16,7 +16,7 @@ ghost use Rattle.btf_table.specs.SoleFeature.{asks_one, feature_of, IsGranted};
 use crate::sanitize::enumeration64::rewrite_enum64;
 use crate::sanitize::func_proto::rewrite_proto;
 use crate::sanitize::made::Made;
-use crate::sanitize::outcome::{Outcome, placed};
+use crate::sanitize::outcome::{Outcome, outcome_of};
 use crate::table::Btf;
 use btf_plain::{BtfError, BtfKind, Const, Int, IntEncoding, Typedef};
 use btf_records::{BtfType, Struct};
@@ -38,7 +38,7 @@ pub fn rewrite_by(
         (λ outcome. made_of outcome btf_type.now) result }
 {
     match btf_type {
-        BtfType::FuncProto(proto) => placed(rewrite_proto(made, btf, proto, granted)),
+        BtfType::FuncProto(proto) => outcome_of(rewrite_proto(made, btf, proto, granted)),
         BtfType::Enum64(enum64) if !granted => {
             Ok(Outcome::Other(rewrite_enum64(made, btf, enum64)?))
         }

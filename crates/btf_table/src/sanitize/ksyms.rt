@@ -260,7 +260,7 @@ impl Target {
     }
 
     /// The DATASEC, with 4 bytes for each entry, one after the other.
-    fn laid_out(&self, btf: &Btf, data_sec: &DataSec) -> Result<DataSec, BtfError>
+    fn lay_out(&self, btf: &Btf, data_sec: &DataSec) -> Result<DataSec, BtfError>
         ensures like { (placeholder : Option ℕ) → self.now ≡ symbol_target btf.now placeholder
             → IfOk result (λ s. IsLike (BtfType.DataSec data_sec.now) (BtfType.DataSec s)) }
         ensures words { (placeholder : Option ℕ) → self.now ≡ symbol_target btf.now placeholder
@@ -332,7 +332,7 @@ impl Step {
                 self.target.new_proto(proto)
             }
             BtfType::DataSec(data_sec) if id == self.datasec_id => {
-                Ok(Some(BtfType::DataSec(self.target.laid_out(btf, data_sec)?)))
+                Ok(Some(BtfType::DataSec(self.target.lay_out(btf, data_sec)?)))
             }
             _ => Ok(None),
         }

@@ -21,7 +21,7 @@ use crate::sanitize::features::{BtfFeatureResolver, has_sole_feature};
 use crate::sanitize::func::rewrite_func;
 use crate::sanitize::in_place::rewrite_by;
 use crate::sanitize::made::Made;
-use crate::sanitize::outcome::{Outcome, placed};
+use crate::sanitize::outcome::{Outcome, outcome_of};
 use crate::sanitize::read_names::ReadNames;
 use crate::sanitize::request::Request;
 use crate::table::{Btf, Changes};
@@ -62,7 +62,7 @@ fn rewrite_type<F: FnMut(BtfFeature) -> bool, G: BuildHasher, H: BuildHasher>(
     match btf_type {
         BtfType::Func(func) => rewrite_func(btf, func, names.readable_end, resolver),
         BtfType::DataSec(data_sec) => {
-            placed(rewrite_section(made, btf, request, data_sec, names, resolver))
+            outcome_of(rewrite_section(made, btf, request, data_sec, names, resolver))
         }
         _ => {
             let granted = has_sole_feature(btf_type, resolver);

@@ -114,7 +114,7 @@ fn symbol_offset<H: BuildHasher>(
 /// Fails with `UnknownBtfType` of an id that has no type, with `InvalidDatasec` if the type is no VAR, with
 /// `InvalidStringOffset` if its name can't be read, and with `SymbolOffsetNotFound` if no symbol has the name, or if
 /// the symbol's offset has more than 32 bits.
-fn placed_entry<H: BuildHasher>(
+fn place_entry<H: BuildHasher>(
     btf: &Btf,
     symbols: &HashMap<String, u64, H>,
     readable_end: usize,
@@ -151,7 +151,7 @@ fn placed_entry<H: BuildHasher>(
 /// Reports the first error of the entries in order: `UnknownBtfType` of an id that has no type, `InvalidDatasec` if the
 /// type is no VAR, `InvalidStringOffset` if its name can't be read, and `SymbolOffsetNotFound` if no symbol has the
 /// name, or if the symbol's offset has more than 32 bits.
-pub fn placed_entries<H: BuildHasher>(
+pub fn place_entries<H: BuildHasher>(
     btf: &Btf,
     symbols: &HashMap<String, u64, H>,
     readable_end: usize,
@@ -169,7 +169,7 @@ pub fn placed_entries<H: BuildHasher>(
 {
     let mut placed_entries = Vec::new(btf.allocator());
     for entry in data_sec.entries() {
-        let placed = placed_entry(btf, symbols, readable_end, offsets, entry)?;
+        let placed = place_entry(btf, symbols, readable_end, offsets, entry)?;
         placed_entries.push(placed)?;
     }
     Ok(placed_entries)
