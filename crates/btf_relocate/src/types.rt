@@ -1,11 +1,10 @@
 //! Comparisons of two types, each in its own table.
 
-ghost use Rattle.std.specs.Prelude.{◌≡◌, ◌+◌, ◌<◌, ◌∷◌, reverse, OnOk};
+ghost use Rattle.std.specs.Prelude.{◌+◌, ◌<◌, OnOk};
 ghost use Rattle.btf_relocate_model.specs.Comparison as model;
-ghost use Rattle.btf_relocate_model.specs.declared.comparison.Pair as pairs;
-ghost use Rattle.btf_relocate.specs.Comparing.{IsAsked, IsUnderWay, RunsOn, steps_left, work};
+ghost use Rattle.btf_relocate.specs.Comparing.{IsAsked, steps_left, work};
 ghost use Rattle.btf_relocate.specs.Gives.{Gives};
-ghost use Rattle.btf_relocate.specs.Steps.{comparison};
+ghost use Rattle.btf_relocate.specs.Steps.{comparison, AdvancesIn};
 
 mod names;
 mod steps;
@@ -82,9 +81,8 @@ fn advance(
     frame: &Frame,
     answer: Option<bool>,
 ) -> Result<Option<bool>, RelocationError>
-    ensures runs { (root : pairs.Pair) → IsUnderWay (comparison rule local.now target.now) root
-        progress.old.pairs (frame.now ∷ reverse progress.old.frames.items) answer
-        → RunsOn (comparison rule local.now target.now) root progress.new result }
+    ensures runs { AdvancesIn frame.now answer
+        (comparison rule local.now target.now) progress.old progress.new result }
     ensures fewer { OnOk result (work (comparison rule local.now target.now) progress.new
         < work (comparison rule local.now target.now) progress.old + steps_left frame.now) }
 {

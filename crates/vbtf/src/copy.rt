@@ -4,7 +4,7 @@ ghost use Rattle.std.specs.Prelude.{◌≡◌, ◌≢◌, Ok};
 ghost use Rattle.vbtf.specs.Status.{Opens, KeepsHandle};
 
 use crate::fault::{CLOSED, Fault, INVALID_ARGUMENT, report};
-use crate::handle::{Handle, take_loan, owner};
+use crate::handle::{Handle, owner, take_loan};
 use crate::open::box_table;
 use btf::Btf;
 use std::alloc::Global;

@@ -8,7 +8,7 @@ ghost use Rattle.vbtf.specs.Orders.{order_chosen};
 ghost use Rattle.vbtf.specs.Status.{KeepsHandle};
 
 use crate::fault::{CLOSED, Fault, INVALID_ARGUMENT, report};
-use crate::handle::{Handle, take_loan, owner, take_table};
+use crate::handle::{Handle, owner, take_loan, take_table};
 use crate::opened::Opened;
 use crate::orders::choose_order;
 use crate::seed::Keys;
@@ -49,8 +49,7 @@ pub extern "C" fn vbtf_raw_open_ext(
 ) -> u32
     ensures opened { table.old.state ≡ 1 → order ≤ 2 → EndsOpeningExt result
         (order_chosen order «data».now) «data».now table.old table.new fault.new }
-    ensures closed { table.old.state ≢ 1 → order ≤ 2
-        → (result ≡ CLOSED) × (table.new ≡ table.old) }
+    ensures closed { table.old.state ≢ 1 → order ≤ 2 → (result ≡ CLOSED) × (table.new ≡ table.old) }
     ensures order { 2 < order → (result ≡ INVALID_ARGUMENT) × (table.new ≡ table.old) }
 {
     let Some(endianness) = choose_order(order, data) else {

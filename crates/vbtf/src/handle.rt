@@ -6,7 +6,7 @@ ghost use base.Fml.{Share};
 ghost use Rattle.vbtf.specs.declared.opened.Opened.{Opened};
 ghost use Rattle.vbtf.specs.Changed.{ChangedTo};
 ghost use Rattle.vbtf.specs.Held.{held, coded_opened, coded_share};
-ghost use Rattle.vbtf.specs.Lent.{AreNamesFrom};
+ghost use Rattle.vbtf.specs.Lent.{AreNamesFrom, TakesLoan};
 
 use crate::lent_name::Name;
 use crate::loan::Loan;
@@ -130,9 +130,7 @@ unsafe impl Send for Handle {}
 
 /// Takes the share of a loan out of a handle, and closes the handle. None if it is not in state 2.
 pub(crate) fn take_loan(table: &mut Handle) -> Option<Loan<Opened>>
-    ensures { MatchOption result ((table.old.state ≢ 2) × (table.new ≡ table.old))
-        (λ loan. (table.old.state ≡ 2) × (loan.at ≡ table.old.at) × (loan.value ≡ table.old.opened)
-        × (loan.life ≡ table.old.life) × (loan.share ≡ table.old.share)) }
+    ensures { TakesLoan table.old table.new result }
 {
     if table.read_state() != LENT {
         return None;

@@ -85,10 +85,12 @@ pub extern "C" fn vbtf_close(alloc: Global, table: &mut Handle)
 }
 
 /// The table of a result, in a box, without `.BTF.ext` and index.
-pub(crate) fn box_table(alloc: Global, answer: Result<Btf, BtfError>) -> Result<Box<Opened>, BtfError>
-    ensures { MatchResult result
-        (λ whole. (answer ≡ Ok whole.value.btf) × (whole.value.ext ≡ None)
-        × (whole.value.index ≡ None))
+pub(crate) fn box_table(
+    alloc: Global,
+    answer: Result<Btf, BtfError>,
+) -> Result<Box<Opened>, BtfError>
+    ensures { MatchResult result (λ whole. (answer ≡ Ok whole.value.btf)
+        × (whole.value.ext ≡ None) × (whole.value.index ≡ None))
         (λ error. (answer ≡ Err error) ⊎ (error ≡ OutOfMemory)) }
 {
     let opened = Opened {

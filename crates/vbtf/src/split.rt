@@ -1,14 +1,13 @@
 //! Split tables: the types of a kernel module over those of the kernel, its base.
 
 ghost use Rattle.std.specs.Prelude.{◌≡◌, ◌≢◌, ◌<◌, ◌≤◌, length, Ok};
-ghost use Rattle.btf_model.specs.Table.{Table};
-ghost use Rattle.btf_split_model.specs.Split.{Appends, IsJoined, Joins, cut, over_base, split_blob};
+ghost use Rattle.btf_split_model.specs.Split.{Appends, Joins, cut, split_blob};
 ghost use Rattle.vbtf.specs.Orders.{order_chosen};
-ghost use Rattle.vbtf.specs.Changing.{EndsChanging};
+ghost use Rattle.vbtf.specs.Changing.{EndsChanging, EndsOverBase, OpensOverBase, EndsTruncating};
 ghost use Rattle.vbtf.specs.Status.{EndsFilling, KeepsHandle, Opens};
 
 use crate::fault::{CLOSED, Fault, INVALID_ARGUMENT, report};
-use crate::handle::{Handle, take_loan, owner, taken_to_change};
+use crate::handle::{Handle, owner, take_loan, taken_to_change};
 use crate::open::box_table;
 use crate::orders::choose_order;
 use crate::write::fill;
@@ -35,9 +34,8 @@ pub extern "C" fn vbtf_lent_parse_over(
         → Opens result table.old table.new fault.new
         (Joins (order_chosen order «data».now) base.old.opened.btf «data».now) }
     // An error means that the bytes are no table over the base.
-    ensures only_table { base.old.state ≡ 2 → table.old.state ≡ 0 → order ≤ 2
-        → (t : Table) → IsJoined (order_chosen order «data».now) base.old.opened.btf «data».now t
-        → Opens result table.old table.new fault.new (λ answer. answer ≡ Ok t) }
+    ensures only_table { EndsOverBase base.old table.old table.new «data».now order fault.new
+        result }
     ensures open { base.old.state ≡ 2 → table.old.state ≢ 0
         → (result ≡ INVALID_ARGUMENT) × (table.new ≡ table.old) }
     ensures order { base.old.state ≡ 2 → 2 < order
@@ -65,9 +63,8 @@ fn open_over(
     ensures opened { table.old.state ≡ 0 → order ≤ 2
         → Opens result table.old table.new fault.new
         (Joins (order_chosen order «data».now) base.now «data».now) }
-    ensures only_table { table.old.state ≡ 0 → order ≤ 2
-        → (t : Table) → IsJoined (order_chosen order «data».now) base.now «data».now t
-        → Opens result table.old table.new fault.new (λ answer. answer ≡ Ok t) }
+    ensures only_table { OpensOverBase base.now table.old table.new «data».now order fault.new
+        result }
     ensures open { table.old.state ≢ 0 → (result ≡ INVALID_ARGUMENT) × (table.new ≡ table.old) }
     ensures order { 2 < order → (result ≡ INVALID_ARGUMENT) × (table.new ≡ table.old) }
 {
@@ -174,8 +171,7 @@ pub extern "C" fn vbtf_raw_append_split(
     ensures appended { table.old.state ≡ 1 → order ≤ 2
         → EndsChanging result table.old table.new fault.new
         (Appends (order_chosen order «data».now) table.old.opened.btf «data».now) }
-    ensures closed { table.old.state ≢ 1 → order ≤ 2
-        → (result ≡ CLOSED) × (table.new ≡ table.old) }
+    ensures closed { table.old.state ≢ 1 → order ≤ 2 → (result ≡ CLOSED) × (table.new ≡ table.old) }
     ensures order { 2 < order → (result ≡ INVALID_ARGUMENT) × (table.new ≡ table.old) }
 {
     let Some(data_order) = choose_order(order, data) else {
@@ -205,9 +201,7 @@ pub extern "C" fn vbtf_raw_truncate(
     base_strings: u32,
     fault: &mut Fault,
 ) -> u32
-    ensures cut { table.old.state ≡ 1 → EndsChanging result table.old table.new fault.new
-        (λ answer. answer ≡ over_base base_types base_strings table.old.opened.btf
-        (cut base_types base_strings table.old.opened.btf)) }
+    ensures cut { EndsTruncating table.old table.new base_types base_strings fault.new result }
     ensures closed { table.old.state ≢ 1 → (result ≡ CLOSED) × (table.new ≡ table.old) }
 {
     let Some(mut whole) = taken_to_change(alloc, table) else {

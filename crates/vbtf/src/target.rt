@@ -4,11 +4,11 @@ ghost use Rattle.std.specs.Prelude.{◌≡◌, ◌≢◌, ◌⊎◌, true, false
 ghost use Rattle.btf_plain.specs.declared.error.BtfError.TheVariants.{OutOfMemory};
 ghost use Rattle.vbtf.specs.Changed.{ChangedTo};
 ghost use Rattle.vbtf.specs.Indexed.{Indexes, EndsIndexing};
-ghost use Rattle.vbtf.specs.Resolved.{EndsResolving, ReportsRelocation, ResolvesRecord, relocated_of};
+ghost use Rattle.vbtf.specs.Resolved.{EndsResolving, ReportsRelocation, ResolvesRecord, relocated_of, EndsRelocatingOne};
 ghost use Rattle.vbtf.specs.Status.{KeepsHandle};
 
 use crate::fault::{CLOSED, Fault, INVALID_ARGUMENT, OUT_OF_MEMORY, report, report_number};
-use crate::handle::{Handle, take_loan, owner, take_table, taken_to_change};
+use crate::handle::{Handle, owner, take_loan, take_table, taken_to_change};
 use crate::opened::Opened;
 use crate::refused::report_refused;
 use btf::{Btf, BtfError};
@@ -98,12 +98,9 @@ pub extern "C" fn vbtf_lent_relocate(
     relocated: &mut Relocated,
     fault: &mut Fault,
 ) -> u32
-    ensures relocated { local.old.state ≡ 2 → target.old.state ≡ 2
-        → is_some target.old.opened.index ≡ true
-        → EndsResolving result local.old.opened.btf target.old.opened.btf relocation.now
-        relocated.old relocated.new fault.new }
-    ensures none { local.old.state ≡ 2 → target.old.state ≡ 2
-        → target.old.opened.index ≡ None
+    ensures relocated { EndsRelocatingOne local.old target.old relocation.now relocated.old
+        relocated.new fault.new result }
+    ensures none { local.old.state ≡ 2 → target.old.state ≡ 2 → target.old.opened.index ≡ None
         → (result ≡ CLOSED) × (relocated.new ≡ relocated.old) }
     ensures closed { (local.old.state ≢ 2) ⊎ (target.old.state ≢ 2)
         → (result ≡ CLOSED) × (relocated.new ≡ relocated.old) }
@@ -158,8 +155,7 @@ fn relocate_one(
     ensures relocated { is_some opened.now.index ≡ true
         → EndsResolving result local.now opened.now.btf relocation.now relocated.old relocated.new
         fault.new }
-    ensures none { opened.now.index ≡ None
-        → (result ≡ CLOSED) × (relocated.new ≡ relocated.old) }
+    ensures none { opened.now.index ≡ None → (result ≡ CLOSED) × (relocated.new ≡ relocated.old) }
 {
     let Some(index) = &opened.index else {
         return CLOSED;

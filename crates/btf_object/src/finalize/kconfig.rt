@@ -9,7 +9,7 @@ ghost use Rattle.btf_object_model.specs.Kconfig as model;
 ghost use Rattle.btf_object_model.specs.Kconfig.{FindsText, FindsValue, FindsExtern, FindsExterns, IsConfigured, total};
 ghost use Rattle.btf_rewrite_model.specs.Made.{kind_at};
 ghost use Rattle.btf_object_model.specs.Finalized.{has_data_sec_kind};
-ghost use Rattle.btf_object.specs.Kconfig.{config_value_of, model_extern, has_var_kind, IsVariable, IsDataSec, LaysOutSection, MakesGlobal, FindsKconfig, HasDataSecOf, PutsSection};
+ghost use Rattle.btf_object.specs.Kconfig.{config_value_of, model_extern, has_var_kind, IsVariable, IsDataSec, LaysOutSection, MakesGlobal, FindsKconfig, HasDataSecOf, PutsSection, AreLaidOut};
 
 use crate::names::NAME_LIMIT;
 use btf_plain::{BtfArray, BtfError, BtfKind, DataSecEntry, Var, VarLinkage};
@@ -75,9 +75,8 @@ fn number(size: u32) -> Option<Value>
 
 /// The value of an array, if its elements are INTs of one byte: a text.
 fn text(btf: &Btf, array: &BtfArray) -> Option<Value>
-    ensures { FindsText btf.now
-        (array.now.element_type ∷ array.now.index_type ∷ array.now.len ∷ [])
-        (option_map config_value_of result) }
+    ensures { FindsText btf.now (array.now.element_type ∷ array.now.index_type ∷ array.now.len
+        ∷ []) (option_map config_value_of result) }
 {
     let element = btf.resolve_type(array.element_type).ok()?;
     match btf.type_by_id(element).ok()? {
@@ -141,11 +140,8 @@ fn lay_out(
     alloc: Global,
     externs: &[Extern<'_>],
 ) -> Result<Option<(Vec<DataSecEntry>, u32)>, AllocError>
-    ensures some { IfOk result (λ o. IfSome o (λ made.
-        (map entry_of made.0.items ≡ model.externs_laid_out 0 (map model_extern externs.now))
-        × (made.1 ≡ total (map model_extern externs.now)) × (made.1 < 2 ^ 32))) }
-    ensures none { IfOk result (λ o. IfNone o
-        (2 ^ 32 ≤ total (map model_extern externs.now))) }
+    ensures some { IfOk result (λ o. IfSome o (λ made. AreLaidOut externs.now made.0.items made.1)) }
+    ensures none { IfOk result (λ o. IfNone o (2 ^ 32 ≤ total (map model_extern externs.now))) }
 {
     let mut entries = Vec::with_capacity(alloc, externs.len())?;
     let mut size = 0u32;

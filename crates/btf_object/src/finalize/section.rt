@@ -1,15 +1,13 @@
 //! What becomes of a DATASEC.
 
-ghost use Rattle.std.specs.Prelude.{◌≡◌, ◌≤◌, length, map, if◌then◌else◌, Some, None, IfSome, IfOk, IfErr, OnOk};
-ghost use Rattle.std.specs.List.{list_all};
-ghost use Rattle.std.specs.Option.{option_map, is_some};
+ghost use Rattle.std.specs.Prelude.{◌≡◌, length, map, if◌then◌else◌, Some, None, IfSome, IfOk, IfErr, OnOk};
+ghost use Rattle.std.specs.Option.{option_map};
 ghost use Rattle.btf_model.specs.Record as model;
 ghost use Rattle.btf_model.specs.Record.{kind_of, vlen};
 ghost use Rattle.btf_rewrite_model.specs.Made.{entries};
-ghost use Rattle.btf_table.specs.Layout.{layout_of};
 ghost use Rattle.btf_table.specs.KsymsStep.{model_entry as entry_of};
-ghost use Rattle.btf_object_model.specs.Finalized.{entry_offset, entry_at_offset, IsFinal};
-ghost use Rattle.btf_object.specs.Finalize.{AreNamesCached, parts_of, completed_parts, final_parts};
+ghost use Rattle.btf_object_model.specs.Finalized.{entry_offset, IsFinal};
+ghost use Rattle.btf_object.specs.Finalize.{AreNamesCached, parts_of, completed_parts, final_parts, layout_in, entries_placed};
 
 use crate::finalize::known::KnownNames;
 use crate::layout::ObjectLayout;
@@ -27,14 +25,10 @@ fn entry_offset<H: BuildHasher>(
     names: &mut KnownNames,
     entry: &DataSecEntry,
 ) -> Result<Option<u32>, BtfError>
-    requires { AreNamesCached btf.now.strings
-        (layout_of layout.now.sections layout.now.symbols) names.old }
-    ensures made { IfOk result (λ offset. offset
-        ≡ entry_offset (layout_of layout.now.sections layout.now.symbols) btf.now
+    requires { AreNamesCached btf.now.strings (layout_in layout.now) names.old }
+    ensures made { IfOk result (λ offset. offset ≡ entry_offset (layout_in layout.now) btf.now
         (entry_of entry.now)) }
-    ensures read { OnOk result
-        (AreNamesCached btf.now.strings (layout_of layout.now.sections layout.now.symbols)
-        names.new) }
+    ensures read { OnOk result (AreNamesCached btf.now.strings (layout_in layout.now) names.new) }
     ensures memory { IfErr result (λ e. e ≡ BtfError.OutOfMemory) }
 {
     let Ok(BtfType::Var(var)) = btf.type_by_id(entry.btf_type) else {
@@ -57,18 +51,11 @@ fn place_entries<H: BuildHasher>(
     names: &mut KnownNames,
     data_sec: &DataSec,
 ) -> Result<Option<Vec<DataSecEntry>>, BtfError>
-    requires { AreNamesCached btf.now.strings
-        (layout_of layout.now.sections layout.now.symbols) names.old }
+    requires { AreNamesCached btf.now.strings (layout_in layout.now) names.old }
     ensures made { IfOk result (λ placed_entries.
-        option_map (λ v. map entry_of v.items) placed_entries
-        ≡ if list_all (λ e. is_some (entry_offset
-        (layout_of layout.now.sections layout.now.symbols) btf.now e)) (entries data_sec.now.tail)
-        then Some (map (entry_at_offset (layout_of layout.now.sections layout.now.symbols) btf.now)
-        (entries data_sec.now.tail)) else None) }
+        option_map (λ v. map entry_of v.items) placed_entries ≡ entries_placed (layout_in layout.now) btf.now data_sec.now) }
     ensures count { IfOk result (λ o. IfSome o (λ v. length v.items ≡ vlen data_sec.now.info)) }
-    ensures read { OnOk result
-        (AreNamesCached btf.now.strings (layout_of layout.now.sections layout.now.symbols)
-        names.new) }
+    ensures read { OnOk result (AreNamesCached btf.now.strings (layout_in layout.now) names.new) }
     ensures memory { IfErr result (λ e. e ≡ BtfError.OutOfMemory) }
 {
     let mut placed = Vec::new(alloc);
@@ -109,15 +96,12 @@ fn complete<H: BuildHasher>(
     names: &mut KnownNames,
     data_sec: &DataSec,
 ) -> Result<Option<(u32, Vec<DataSecEntry>)>, BtfError>
-    requires { AreNamesCached btf.now.strings
-        (layout_of layout.now.sections layout.now.symbols) names.old }
+    requires { AreNamesCached btf.now.strings (layout_in layout.now) names.old }
     ensures made { IfOk result (λ parts. option_map parts_of parts
-        ≡ completed_parts (layout_of layout.now.sections layout.now.symbols) btf.now data_sec.now) }
+        ≡ completed_parts (layout_in layout.now) btf.now data_sec.now) }
     ensures count { IfOk result (λ o. IfSome o
         (λ parts. length parts.1.items ≡ vlen data_sec.now.info)) }
-    ensures read { OnOk result
-        (AreNamesCached btf.now.strings (layout_of layout.now.sections layout.now.symbols)
-        names.new) }
+    ensures read { OnOk result (AreNamesCached btf.now.strings (layout_in layout.now) names.new) }
     ensures memory { IfErr result (λ e. e ≡ BtfError.OutOfMemory) }
 {
     if data_sec.size() != 0 {
@@ -140,14 +124,11 @@ fn size_and_entries<H: BuildHasher>(
     names: &mut KnownNames,
     data_sec: &DataSec,
 ) -> Result<(u32, Vec<DataSecEntry>), BtfError>
-    requires { AreNamesCached btf.now.strings
-        (layout_of layout.now.sections layout.now.symbols) names.old }
+    requires { AreNamesCached btf.now.strings (layout_in layout.now) names.old }
     ensures made { IfOk result (λ parts. parts_of parts
-        ≡ final_parts (layout_of layout.now.sections layout.now.symbols) btf.now data_sec.now) }
+        ≡ final_parts (layout_in layout.now) btf.now data_sec.now) }
     ensures count { IfOk result (λ parts. length parts.1.items ≡ vlen data_sec.now.info) }
-    ensures read { OnOk result
-        (AreNamesCached btf.now.strings (layout_of layout.now.sections layout.now.symbols)
-        names.new) }
+    ensures read { OnOk result (AreNamesCached btf.now.strings (layout_in layout.now) names.new) }
     ensures memory { IfErr result (λ e. e ≡ BtfError.OutOfMemory) }
 {
     match complete(alloc, btf, layout, names, data_sec)? {
@@ -164,16 +145,12 @@ pub fn final_section<H: BuildHasher>(
     names: &mut KnownNames,
     data_sec: &DataSec,
 ) -> Result<DataSec, BtfError>
-    requires { AreNamesCached btf.now.strings
-        (layout_of layout.now.sections layout.now.symbols) names.old }
-    ensures made { IfOk result (λ new.
-        IsFinal (layout_of layout.now.sections layout.now.symbols) btf.now (Some model.DataSec)
-        data_sec.now new) }
+    requires { AreNamesCached btf.now.strings (layout_in layout.now) names.old }
+    ensures made { IfOk result (λ new. IsFinal (layout_in layout.now) btf.now
+        (Some model.DataSec) data_sec.now new) }
     ensures kind { IfOk result (λ new. kind_of new.info ≡ Some model.DataSec) }
     ensures len { IfOk result (λ new. length new.tail ≡ length data_sec.now.tail) }
-    ensures read { OnOk result
-        (AreNamesCached btf.now.strings (layout_of layout.now.sections layout.now.symbols)
-        names.new) }
+    ensures read { OnOk result (AreNamesCached btf.now.strings (layout_in layout.now) names.new) }
     ensures memory { IfErr result (λ e. e ≡ BtfError.OutOfMemory) }
 {
     // The contract is about the length of the record, which this shows.

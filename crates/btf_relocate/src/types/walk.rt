@@ -2,10 +2,9 @@
 
 ghost use Rattle.std.specs.Prelude.{◌≡◌, ◌<◌, ◌≤◌, drop, length, map, IfOk, IfSome};
 ghost use Rattle.btf_relocate_model.specs.Comparison as model;
-ghost use Rattle.btf_model.specs.Table.{Table};
 ghost use Rattle.btf_relocate.specs.Comparing.{LeavesFewer, LeavesFewerPlaces};
 ghost use Rattle.btf_relocate.specs.Members.{member_of};
-ghost use Rattle.btf_relocate.specs.Steps.{Compare, Continues, NamedMember, NextMember, comparison, next_of, resumed, type_of};
+ghost use Rattle.btf_relocate.specs.Steps.{Continues, NamedMember, NextMember, comparison, ResumesParameters};
 
 use super::Frame;
 use super::names::names_match;
@@ -84,12 +83,7 @@ fn next_parameter(
     others: &[BtfParam],
     returned: &Pair,
 ) -> Next
-    ensures next { (inner further : Compare) (local target : Table)
-        → next_of inner further local target
-        (model.EachParameter (map type_of params.now) (map type_of others.now) returned.now) result
-        ≡ resumed inner further local target
-        (model.EachParameter (map type_of params.now) (map type_of others.now) returned.now)
-        frame.now.index frame.now.other answer }
+    ensures next { ResumesParameters frame.now answer params.now others.now returned.now result }
     ensures fewer { LeavesFewerPlaces frame.now.index frame.now.other result }
 {
     if let Some(false) = answer {

@@ -7,9 +7,9 @@ use Rattle.btf_rewrite_model.specs.Made.{entries}
 use Rattle.btf_rewrite_model.proofs.Granted.{vlen_small}
 use Rattle.btf_plain.specs.Items.{code_entry_words}
 use Rattle.btf_object_model.specs.Kconfig.{total}
-use Rattle.btf_object.specs.Kconfig.{model_extern, HasExterns}
+use Rattle.btf_object.specs.Kconfig.{model_extern, HasExterns, AreLaidOut}
 use Rattle.btf_object.specs.declared.finalize.kconfig.Extern.{Extern}
-use Rattle.btf_object.proofs.Externs.{AreLaidOut, has_externs, section_made, entries_count, if_some, if_none, known_some}
+use Rattle.btf_object.proofs.Externs.{has_externs, section_made, entries_count, if_some, if_none, known_some}
 use Rattle.btf_object.proofs.FinalSections.{none_there}
 use Rattle.btf_object.proofs.finalize.kconfig.lay_out_section.Goals as goal
 use Rattle.btf_object.proofs.finalize.kconfig.lay_out_section.Goals.{In_ok-entries, In-Some-2}
