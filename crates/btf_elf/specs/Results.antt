@@ -1,6 +1,6 @@
 -- The relation between results and the errors of the definitions.
 use Rattle.std.specs.Prelude.{◌≡◌, ⊤, ℕ, List, Option, Some, None, Result, Ok, Err, MatchResult, slice_get, true}
-use Rattle.btf_elf_model.specs.Object.{IsParseError}
+use Rattle.btf_elf_model.specs.Object.{Object, IsParseError}
 use Rattle.btf_elf_model.specs.declared.error.ParseError.{ParseError}
 use Rattle.btf_elf.specs.declared.error.ObjectError.{ObjectError}
 use Rattle.btf_elf.specs.declared.error.ObjectError.TheVariants.{Parse, OutOfMemory}

@@ -1,15 +1,15 @@
-//! A buffered writer of text over a writer of bytes, with a buffer of fixed size.
+//! The writer of text and its buffer.
 
-ghost use Rattle.std.specs.Prelude.{◌≡◌, [], OnOk};
-ghost use Rattle.std.specs.Io.KnownBytes.{Appends, append_known};
-ghost use Rattle.btf_text.specs.Buffer.{given_text, IsFlushed};
+ghost use Rattle.std.specs.Prelude.{◌≡◌, [], ◌++◌, IsOk, OnOk};
+ghost use Rattle.std.specs.Io.KnownBytes.{Appends, Keeps};
+ghost use Rattle.text_buffer.specs.Buffer.{given_text, Takes, HasBufferRoom};
 
 use arrayvec::ArrayString;
 use std::fmt;
 use std::io::Write;
 
 /// The capacity of the buffer in bytes.
-const CAPACITY: usize = 32768;
+const CAPACITY: usize = 8192;
 
 /// A writer of text, which passes its text to a writer of bytes in large pieces. Nothing is allocated.
 #[derive(Drop)]
@@ -19,9 +19,11 @@ pub struct TextBuffer<'a, W> {
 }
 
 impl<'a, W: Write> TextBuffer<'a, W> {
-    /// A writer of text with an empty buffer.
+    /// A writer with an empty buffer.
     pub fn new(out: &'a mut W) -> TextBuffer<'a, W>
-        ensures { given_text W.contents result ≡ append_known (W.contents out.old) [] }
+        ensures same_reference { result.out.ghost_name ≡ out.entry.ghost_name }
+        ensures out { result.out.now ≡ out.old }
+        ensures empty { result.pending.bytes ≡ [] }
     {
         TextBuffer {
             out,
@@ -31,9 +33,11 @@ impl<'a, W: Write> TextBuffer<'a, W> {
 
     /// Adds a text. If the buffer has no room for the text, it is written out first. A text that is longer than the
     /// buffer goes directly to the writer.
-    fn put(&mut self, text: &str) -> fmt::Result
-        ensures { OnOk result
-            (Appends (given_text W.contents self.old) (given_text W.contents self.new) text.now) }
+    pub fn put(&mut self, text: &str) -> fmt::Result
+        ensures taken { OnOk result (Takes W.contents self.old text.now self.new) }
+        // If there is room, the writer is not called, so nothing fails.
+        ensures room { HasBufferRoom self.old text.now → IsOk result
+            × (self.new.pending.bytes ≡ self.old.pending.bytes ++ text.now) }
     {
         if self.pending.try_push_str(text).is_ok() {
             return Ok(());
@@ -47,7 +51,10 @@ impl<'a, W: Write> TextBuffer<'a, W> {
 
     /// Writes the buffer out. Text that is in the buffer when it is dropped is lost.
     pub fn flush(&mut self) -> fmt::Result
-        ensures { OnOk result (IsFlushed W.contents self.old self.new) }
+        ensures same_reference { self.new.out.ghost_name ≡ self.old.out.ghost_name }
+        ensures bytes { OnOk result (Keeps (given_text W.contents self.old)
+            (given_text W.contents self.new)) }
+        ensures empty { OnOk result (self.new.pending.bytes ≡ []) }
     {
         write_text(&mut *self.out, self.pending.as_str())?;
         self.pending.clear();
@@ -63,7 +70,9 @@ fn write_text<W: Write>(out: &mut W, text: &str) -> fmt::Result
 }
 
 impl<W: Write> fmt::Write for TextBuffer<'_, W> {
-    ghost write_str_gives = { λ b bytes c. Appends (given_text W.contents b) (given_text W.contents c) bytes };
+    ghost use Rattle.text_buffer.specs.Buffer.{Takes};
+
+    ghost write_str_gives = { Takes W.contents };
 
     fn write_str(&mut self, text: &str) -> fmt::Result {
         self.put(text)
