@@ -261,3 +261,12 @@ abbrev pub Compares : Table → Table → Pair → Result Bool BtfError → (Lis
 Compares local target root result Reports =
     (answer : Result Bool Refusal) × (listed : List Pair) × Plain local target [] root answer listed
     × TracesBy Reports result answer (firsts listed)
+
+-- The walk of a pair starts: it fails, and no pair is added to the starts; or the frame is that of the pair, `Learns`
+-- holds, and the pair is added.
+abbrev pub StartsPair : {S : Type 0} → Table → Table → (Pair → Bool) → ℕ × ℕ → Frame → Result Place BtfError → Type 0
+    → (S → S → List (ℕ × ℕ) → Type 0) → S → S → Type 0
+StartsPair local target passed pair frame result Learns has old new =
+    (FailsFor result (CannotStart local target (pair_of pair)) × KeepsStarts has old new)
+    ⊎ (HasStarted local target passed (pair_of pair) frame result × (frame.pair ≡ pair) × Learns
+    × AddsStart has old new pair)

@@ -6,10 +6,10 @@
 //! on an explicit stack. A pair whose walk ended with true is *known to be compatible*, and is not walked again. The
 //! first pair that is not compatible ends the run with false.
 
-ghost use Rattle.std.specs.Prelude.{◌≡◌, ◌⊎◌, ℕ, ◌+◌, None, IsSome, [], ◌∷◌, ◌++◌, List, Result, OnOk, MatchOption, true, false};
+ghost use Rattle.std.specs.Prelude.{◌≡◌, ℕ, ◌+◌, None, IsSome, [], ◌∷◌, ◌++◌, List, Result, OnOk, MatchOption, true, false};
 ghost use Rattle.std.specs.BTreeSet.{IsEmpty};
 ghost use Rattle.btf_model.specs.Fields.{HaveKinds};
-ghost use Rattle.btf_compare.specs.Compared.{IsStarted, FailsFor, HasStarted, CannotStart, GainsOnly, NotesPrototypes, WalksTo, AreAt, frame_of, passed_in, progress_of, progress_compatible, KeepsStarts, AddsStart, Compares};
+ghost use Rattle.btf_compare.specs.Compared.{IsStarted, GainsOnly, NotesPrototypes, WalksTo, AreAt, frame_of, passed_in, progress_of, progress_compatible, Compares, StartsPair};
 ghost use Rattle.btf_model.specs.Run.{new_frame};
 ghost use Rattle.btf_compare.specs.PairMap.{known_progress, count, Learns};
 ghost use Rattle.btf_compare.specs.Pairs.{pair_of};
@@ -157,11 +157,7 @@ fn start<'a, L: Listed, S: Starts>(
     starts: &mut S,
 ) -> Result<Place<'a>, BtfError>
     requires { L.knows listed.old pair ≡ None }
-    ensures { (FailsFor result (CannotStart local.now target.now (pair_of pair))
-        × KeepsStarts S.has_added starts.old starts.new)
-        ⊎ (HasStarted local.now target.now (passed_in passed.now) (pair_of pair) frame.new result
-        × (frame.new.pair ≡ pair) × L.learns listed.old listed.new pair (progress_of result)
-        × AddsStart S.has_added starts.old starts.new pair) }
+    ensures { StartsPair local.now target.now (passed_in passed.now) pair frame.new result (L.learns listed.old listed.new pair (progress_of result)) S.has_added starts.old starts.new }
 {
     let local_type = local.type_by_id(pair.0)?;
     let target_type = target.type_by_id(pair.1)?;

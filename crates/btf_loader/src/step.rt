@@ -4,12 +4,12 @@ ghost use Rattle.std.specs.Prelude.{◌≡◌, ℕ, ◌+◌, ◌<◌, ◌++◌, 
 ghost use Rattle.std.specs.List.{list_any};
 ghost use Rattle.btf_ext.specs.Relocation.{relocation};
 ghost use Rattle.btf_model.specs.Text.{text_at};
-ghost use Rattle.btf_loader_model.specs.Loader.{any_error, has_error, index_at, is_error, is_short_at, is_unreadable, relocated_at, relocated_file, section_at};
+ghost use Rattle.btf_loader_model.specs.Loader.{any_error, has_error, index_at, is_error, is_short_at, is_unreadable, relocated_at};
 ghost use Rattle.btf_loader_model.specs.Refused.{BadRecord, BadSectionName, bad_outcome, bad_record, records_reason, sections_reason, reason_when};
 ghost use Rattle.btf_loader.specs.Errors.{Reports};
 ghost use Rattle.btf_loader.specs.Names.{HasIndices};
 ghost use Rattle.btf_loader.specs.Places.{HasPlaces};
-ghost use Rattle.btf_loader.specs.Results.{outcomes_of, refuses_errors, setting_of};
+ghost use Rattle.btf_loader.specs.Results.{outcomes_of, refuses_errors, setting_of, file_relocated, records_relocated};
 ghost use Rattle.btf_loader.specs.declared.step.Refusals.TheVariants.{Refuse};
 ghost use Rattle.btf_relocate.specs.Sections.{is_shared};
 ghost use Rattle.btf_table.specs.Readable.{IsReadableEnd};
@@ -71,9 +71,7 @@ impl<'a, 'o, 't> Loader<'a, 'o, 't> {
         requires placed { HasPlaces self.now.places.now self.now.object.now.sections }
         requires readable { IfSome self.now.readable_end (IsReadableEnd self.now.local.now.strings) }
         ensures relocated { IfOk result (λ r. (map outcomes_of r.items, file.new)
-            ≡ relocated_file (setting_of self.now)
-            (is_shared self.now.policy) self.now.object.now file.old
-            (map relocation relocations.now)) }
+            ≡ file_relocated self.now file.old (map relocation relocations.now)) }
         ensures refused { IfOk result (λ r. self.now.refusals ≡ Refuse
             → any_error (map outcomes_of r.items) ≡ false) }
         ensures readable { OnOk result (list_any (is_unreadable self.now.local.now.strings)
@@ -101,10 +99,7 @@ impl<'a, 'o, 't> Loader<'a, 'o, 't> {
         requires placed { HasPlaces self.now.places.now self.now.object.now.sections }
         requires readable { IfSome self.now.readable_end (IsReadableEnd self.now.local.now.strings) }
         ensures relocated { IfOk result
-            (λ r. (option_map (λ v. v.items) r, file.new) ≡ relocated_at (setting_of self.now)
-            (is_shared self.now.policy) (section_at
-            (setting_of self.now) self.now.object.now section.now.0) file.old
-            section.now.1.items) }
+            (λ r. (option_map (λ v. v.items) r, file.new) ≡ records_relocated self.now file.old section.now.0 section.now.1.items) }
         ensures refused { IfOk result (λ r. self.now.refusals ≡ Refuse
             → has_error (option_map (λ v. v.items) r) ≡ false) }
         ensures readable { OnOk result

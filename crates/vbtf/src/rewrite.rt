@@ -43,7 +43,7 @@ pub extern "C" fn vbtf_raw_rewrite(
     ensures rewritten { EndsRewritingNamed table.old table.new section_names.now sections.now
         symbol_names.now symbols.now kernel.now asked.new fault.new result }
     ensures closed { table.old.state ≢ 1 → (result ≡ CLOSED) × (table.new ≡ table.old) }
-    ensures unreadable { table.old.state ≡ 1 → (AreReadable section_names.now sections.now symbol_names.now symbols.now → ⊥) → ((result ≡ INVALID_ARGUMENT) ⊎ (result ≡ no_memory)) × (table.new ≡ table.old) }
+    ensures unreadable { table.old.state ≡ 1 → ¬ (AreReadable section_names.now sections.now symbol_names.now symbols.now) → ((result ≡ INVALID_ARGUMENT) ⊎ (result ≡ no_memory)) × (table.new ≡ table.old) }
     // Whether the rewrite succeeds or fails, the reported features are the first ones that it asks for, each with
     // whether the kernel has it; there are none if the call fails before the rewrite begins.
     ensures asked { ReportsAsked kernel.now (layout_named section_names.now sections.now
