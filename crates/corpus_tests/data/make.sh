@@ -39,6 +39,7 @@ for object in *.o; do
     esac
     llvm-strip-14 --strip-debug --keep-section=.BTF --keep-section=.BTF.ext "$object"
     bpftool btf dump file "$object" format raw >"$object.bpftool" || rm "$object.bpftool"
+    bpftool btf dump file "$object" format c >"$object.header" || rm "$object.header"
     llvm-readelf-14 --sections --wide "$object" | sed -n 's/^ *\[ *[0-9]*\] //p' |
         awk '$1 ~ /^[.a-z]/ { print $1, $4, $5 }' >"$object.readelf"
     for name in everything bits node number event task_struct; do
@@ -57,6 +58,7 @@ for module in 1 2 3; do
     pahole -J --btf_base base.btf module.o
     llvm-objcopy-14 --dump-section .BTF=module$module.btf module.o
     bpftool -B base.btf btf dump file module$module.btf format raw >module$module.btf.bpftool
+    bpftool -B base.btf btf dump file module$module.btf format c >module$module.btf.header
     for name in port cell device tcphdr; do
         pahole -F btf --btf_base base.btf -C $name module$module.btf || true
     done >module$module.btf.pahole 2>/dev/null

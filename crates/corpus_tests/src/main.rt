@@ -18,7 +18,7 @@ use crate::command_lines::try_command_lines;
 use crate::ext::compare_ext;
 use crate::kernels::try_kernels;
 use crate::malformed::try_malformed;
-use crate::outputs::{NAMES, compare_dump, compare_layouts, compare_sections};
+use crate::outputs::{NAMES, compare_dump, compare_header, compare_layouts, compare_sections};
 use crate::relocations::{RELOCATED, compare_relocations};
 use crate::samples::SAMPLES;
 use crate::split_tables::try_split_tables;
@@ -34,6 +34,7 @@ fn read(rt: &HostRuntime, sample: &str, tool: &str) -> anyhow::Result<Vec<u8>> {
 fn try_sample(rt: &HostRuntime, sample: &'static str) -> anyhow::Result<()> {
     let object = read(rt, sample, "")?;
     compare_dump(rt, sample, &object, None, &read(rt, sample, ".bpftool")?)?;
+    compare_header(rt, sample, &object, None, &read(rt, sample, ".header")?)?;
     compare_layouts(
         rt,
         sample,
