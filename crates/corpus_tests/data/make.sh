@@ -46,6 +46,13 @@ for object in *.o; do
         pahole -F btf -C "$name" "$object" || true
     done >"$object.pahole" 2>/dev/null
 done
+# Of the header of an object, the declarations that one structure needs, and those that the unions need.
+awk -v RS= -v ORS='\n\n' '/^#/ || / u(8|64);$/ || /^struct node/' clang14.bpfeb.kinds.o.header |
+    sed '$d' >clang14.bpfeb.kinds.o.node
+awk -v RS= -v ORS='\n\n' '/^#/ || / u(8|32);$/ || /^union number/' clang14.bpfeb.kinds.o.header |
+    sed '$d' >clang14.bpfeb.kinds.o.union
+# Tables that no compiler writes. names.btf.header is written by hand.
+python3 hostile.py
 for object in clang*.bpf*.o; do
     llvm-objdump-19 -d -l -r --no-show-raw-insn "$object" | awk -f lines.awk | LC_ALL=C sort >"$object.objdump"
 done

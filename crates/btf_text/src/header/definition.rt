@@ -6,8 +6,8 @@ use crate::header::draft::{ARGUMENT_LIST, Draft};
 use crate::header::enumeration::write_enumeration;
 use crate::header::members::begin_members;
 use crate::header::task::{Declaration, Label, Task, write_tasks};
-use crate::word::text_at;
 use btf_records::BtfType;
+use btf_table::short_name;
 use std::fmt::Write;
 
 /// The name of a TYPEDEF of that type. GCC wrote it as one of `void`.
@@ -21,22 +21,28 @@ const ALIASES: [(&str, &str); 4] = [
     ("__Poly128_t", "unsigned __int128"),
 ];
 
+/// The number of bytes that a name of numbers has at most, with the zero byte after it. A longer one is not counted, so
+/// that an INT takes bounded time and memory: its declaration does not write its name.
+const NUMBER_NAME_LIMIT: usize = 256;
+
 /// Writes the end of a declaration.
 fn end_declaration<W: Write>(draft: &mut Draft<'_, W>) -> Result<(), TextError> {
     draft.out.write_str(";\n\n")?;
     Ok(())
 }
 
-/// Whether the name at a string offset is this one.
-fn has_name<W: Write>(
-    draft: &Draft<'_, W>,
-    name_offset: u32,
-    name: &str,
-) -> Result<bool, TextError> {
-    match text_at(draft.table, name_offset)? {
-        Some(text) => Ok(text.as_str() == name),
-        None => Ok(false),
+/// Whether the name at a string offset is this one. Reads no more of a longer name.
+fn has_name<W: Write>(draft: &Draft<'_, W>, name_offset: u32, name: &str) -> bool {
+    let limit = name.len().saturating_add(1);
+    match short_name(draft.table, name_offset, limit) {
+        Some(bytes) => bytes == name.as_bytes(),
+        None => false,
     }
+}
+
+/// Whether the name of an INT at a string offset is counted.
+fn is_counted<W: Write>(draft: &Draft<'_, W>, name_offset: u32) -> bool {
+    name_offset != 0 && short_name(draft.table, name_offset, NUMBER_NAME_LIMIT).is_some()
 }
 
 /// Writes a TYPEDEF for the name of an INT that C does not have.
@@ -46,11 +52,11 @@ pub fn write_alias<W: Write>(
     btf_type: &BtfType,
 ) -> Result<(), TextError> {
     let name_offset = btf_type.name_offset();
-    if name_offset != 0 {
+    if is_counted(draft, name_offset) {
         draft.names.number_of(draft.table, type_id)?;
     }
     for (name, text) in ALIASES {
-        if has_name(draft, name_offset, name)? {
+        if has_name(draft, name_offset, name) {
             writeln!(draft.out, "typedef {text} {name};\n")?;
         }
     }
@@ -73,10 +79,10 @@ pub fn write_typedef<W: Write>(draft: &mut Draft<'_, W>, type_id: u32) -> Result
         return Ok(());
     };
     let (name_offset, target) = (typedef.name_offset(), typedef.btf_type());
-    if has_name(draft, name_offset, ARGUMENT_LIST)? {
+    if has_name(draft, name_offset, ARGUMENT_LIST) {
         return Ok(());
     }
-    if target == 0 && has_name(draft, name_offset, GNU_ARGUMENT_LIST)? {
+    if target == 0 && has_name(draft, name_offset, GNU_ARGUMENT_LIST) {
         draft.names.number_of(draft.table, type_id)?;
         writeln!(draft.out, "typedef {ARGUMENT_LIST} {GNU_ARGUMENT_LIST};\n")?;
         return Ok(());
