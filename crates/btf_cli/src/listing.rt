@@ -9,13 +9,13 @@ ghost use Rattle.text_buffer.specs.Buffer.{Takes, HasBufferRoom};
 ghost use Rattle.btf_cli.specs.Listing.{name_part, type_line, lines_from};
 ghost use Rattle.btf_cli.specs.Listing as spec;
 
-use text_buffer::TextBuffer;
 use btf_plain::BtfError;
 use btf_records::BtfType;
 use btf_table::{Btf, name_bytes};
 use std::alloc::Global;
 use std::fmt::Write;
 use std::{fmt, io};
+use text_buffer::TextBuffer;
 
 /// Writes the text of bytes: U+FFFD replaces each longest piece that is not UTF-8.
 fn write_lossy<W: io::Write>(lines: &mut TextBuffer<'_, W>, bytes: &[u8]) -> fmt::Result
