@@ -19,6 +19,10 @@ pub enum TextError {
     #[error("{0}")]
     Table(BtfError),
 
+    /// The text would be too long: types without a name are used too often, or gaps are too large.
+    #[error("the text would be too long")]
+    TooLong,
+
     /// An allocation failed.
     #[error("out of memory")]
     OutOfMemory,

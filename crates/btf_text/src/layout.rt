@@ -17,11 +17,11 @@ mod stats;
 mod type_text;
 
 use crate::error::TextError;
-use crate::layout::group::Group;
+pub(crate) use crate::layout::group::Group;
 use crate::layout::members::{Level, write_struct, write_union};
 use crate::layout::page::Page;
 use crate::layout::stats::write_stats;
-use crate::layout::type_text::keyword;
+pub(crate) use crate::layout::type_text::keyword;
 use crate::word::text_at;
 use btf_plain::{BtfError, BtfKind};
 use btf_records::BtfType;

@@ -14,6 +14,14 @@ pub fn text_at(table: &Btf, offset: u32) -> Result<Option<BtfStr<'_>>, TextError
     }
 }
 
+/// A text that was read; empty if it can't be read.
+pub fn text_or_empty<'a>(read: &'a Option<BtfStr<'a>>) -> &'a str {
+    match read {
+        Some(text) => text.as_str(),
+        None => "",
+    }
+}
+
 /// Writes the text at a string offset in quotes, or a remark that the offset is invalid if no text can be read.
 pub fn write_text<W: Write>(out: &mut W, table: &Btf, offset: u32) -> Result<(), TextError> {
     out.write_str("'")?;

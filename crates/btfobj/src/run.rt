@@ -4,12 +4,13 @@ use crate::files::{STREAM, read_file};
 use crate::new_file::write_file;
 use crate::output::Output;
 use crate::relocate::{relocate_file, summarize};
+use btf_plain::BtfKind;
 use btf_rewrite_model::{BtfFeature, FeatureAnswer};
 use btf_table::Btf;
 use btf_text::Selection;
 use btfobj_cli::{
-    Ending, Fault, InputFile, Request, Rewrite, check, compat, dump, ext, layout, running_base,
-    sanitize, table_alone,
+    Ending, Fault, InputFile, Request, Rewrite, check, compat, dump, ext, header, layout,
+    running_base, sanitize, table_alone,
 };
 use std::alloc::Global;
 use std::hash::RandomState;
@@ -85,7 +86,7 @@ impl From<Ending> for Answer {
 /// instruction, and 141 if the reader of standard output closed it.
 pub fn carry_out(rt: &HostRuntime, request: &Request<'_>) -> ExitCode {
     let mut out = Output::new(rt);
-    match carried_out(rt, request, &mut out) {
+    match answer_request(rt, request, &mut out) {
         Ok(Answer::Yes) => ExitCode::SUCCESS,
         Ok(Answer::No) => ExitCode::FAILURE,
         Ok(Answer::Poisoned) => ExitCode::from(POISONED),
@@ -109,7 +110,7 @@ fn report(rt: &HostRuntime, failure: &Failure<'_>, output: Option<ErrorKind>) ->
 }
 
 /// Carries out a request.
-fn carried_out<'a>(
+fn answer_request<'a>(
     rt: &HostRuntime,
     request: &Request<'a>,
     out: &mut Output<'_>,
@@ -120,6 +121,12 @@ fn carried_out<'a>(
             base,
             selection,
         } => write_types(rt, file, *base, selection, out)?,
+        Request::Header {
+            file,
+            base,
+            names,
+            kind,
+        } => write_declarations(rt, file, *base, names, *kind, out)?,
         Request::Layout { file, base, name } => write_members(rt, file, *base, name, out)?,
         Request::Ext { file, base } => write_records(rt, file, *base, out)?,
         Request::Check {
@@ -162,6 +169,23 @@ fn write_types<'a>(
     blame(
         file,
         dump(rt.alloc(), &bytes, base.as_ref(), selection, out),
+    )
+}
+
+/// Writes types of a file as a C header: those of these names and this kind, and the types that they need.
+fn write_declarations<'a>(
+    rt: &HostRuntime,
+    file: &'a str,
+    base: Option<&'a str>,
+    names: &[&str],
+    kind: Option<BtfKind>,
+    out: &mut Output<'_>,
+) -> Result<(), Failure<'a>> {
+    let base = read_base(rt, file, base)?;
+    let bytes = read(rt, file)?;
+    blame(
+        file,
+        header(rt.alloc(), &bytes, base.as_ref(), names, kind, out),
     )
 }
 
@@ -247,7 +271,7 @@ pub fn blame<'a, T>(file: &'a str, outcome: Result<T, Fault>) -> Result<T, Failu
 }
 
 /// The bytes of a rewritten file, or of its table alone.
-fn sanitized<'a>(
+fn sanitize_file<'a>(
     rt: &HostRuntime,
     file: &'a str,
     rewrite: &Rewrite<'_>,
@@ -285,7 +309,7 @@ fn write_sanitized<'a>(
     is_table_only: bool,
     out: &mut Output<'_>,
 ) -> Result<(), Failure<'a>> {
-    let written = sanitized(rt, file, rewrite, is_table_only)?;
+    let written = sanitize_file(rt, file, rewrite, is_table_only)?;
     write(rt, output, &written, out)
 }
 

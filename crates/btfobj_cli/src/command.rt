@@ -7,7 +7,7 @@ use std::alloc::{AllocError, Global};
 /// The version of the program.
 const VERSION: &str = "0.1.0";
 
-/// The kinds that `dump --kind` takes.
+/// The kinds that `--kind` takes.
 static KINDS: [&str; 19] = [
     "INT",
     "PTR",
@@ -43,6 +43,7 @@ pub fn command<'a>(alloc: Global) -> Result<Command<'a>, AllocError> {
              3 where a relocation poisons its instruction.",
         )
         .subcommand(dump(alloc)?)?
+        .subcommand(header(alloc)?)?
         .subcommand(layout(alloc)?)?
         .subcommand(ext(alloc)?)?
         .subcommand(check(alloc)?)?
@@ -81,12 +82,6 @@ fn dump<'a>(alloc: Global) -> Result<Command<'a>, AllocError> {
         .long("name")
         .value_name("TEXT")
         .help("Only types of this name");
-    let kind = Arg::new(alloc, "kind")
-        .long("kind")
-        .value_name("KIND")
-        .value_parser(KINDS.as_slice())
-        .ignore_case(true)
-        .help("Only types of this kind");
     Command::new(alloc, "dump")
         .about("Writes every type, as bpftool btf dump file FILE format raw does")
         .after_help("Example: btfobj dump /sys/kernel/btf/vmlinux --name task_struct --kind struct")
@@ -94,7 +89,35 @@ fn dump<'a>(alloc: Global) -> Result<Command<'a>, AllocError> {
         .arg(base(alloc, "FILE"))?
         .arg(ids)?
         .arg(name)?
-        .arg(kind)
+        .arg(kind(alloc))
+}
+
+/// The kind of the selected types.
+fn kind<'a>(alloc: Global) -> Arg<'a> {
+    Arg::new(alloc, "kind")
+        .long("kind")
+        .value_name("KIND")
+        .value_parser(KINDS.as_slice())
+        .ignore_case(true)
+        .help("Only types of this kind")
+}
+
+/// The command `header`.
+fn header<'a>(alloc: Global) -> Result<Command<'a>, AllocError> {
+    let names = Arg::new(alloc, "names")
+        .value_name("NAME")
+        .num_args(1..)
+        .help("Only types of these names, and the types that they need");
+    Command::new(alloc, "header")
+        .about("Writes the types as a C header, as bpftool btf dump file FILE format c does")
+        .after_help(
+            "Examples: btfobj header /sys/kernel/btf/vmlinux > vmlinux.h\n          \
+             btfobj header vmlinux task_struct sk_buff --kind struct",
+        )
+        .arg(file(alloc, "file", "FILE", "The object or table"))?
+        .arg(names)?
+        .arg(base(alloc, "FILE"))?
+        .arg(kind(alloc))
 }
 
 /// The command `layout`.

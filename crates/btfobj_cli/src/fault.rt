@@ -56,6 +56,10 @@ pub enum Fault {
     #[error("{0} has no layout: name a structure, a union, or a typedef of one")]
     NoLayout(&'static str),
 
+    /// The text would be too long.
+    #[error("the text would be too long")]
+    TooLong,
+
     /// Standard output fails.
     #[error("cannot write standard output")]
     Write,
@@ -116,6 +120,7 @@ impl From<TextError> for Fault {
         match e {
             TextError::Write => Fault::Write,
             TextError::Table(e) => Fault::Table(e),
+            TextError::TooLong => Fault::TooLong,
             TextError::OutOfMemory => Fault::OutOfMemory,
         }
     }

@@ -17,6 +17,6 @@ pub use compatibility::compat;
 pub use fault::Fault;
 pub use input_file::InputFile;
 pub use relocation::{Ending, Form, Relocated, list_relocations, relocate};
-pub use report::{dump, ext, layout};
+pub use report::{dump, ext, header, layout};
 pub use request::{Relocation, Request, read_request, running_base};
 pub use rewrite::{Rewrite, sanitize, table_alone};

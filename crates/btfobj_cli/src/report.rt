@@ -4,9 +4,10 @@ use crate::fault::Fault;
 use crate::input_file::InputFile;
 use crate::split::continues_base;
 use btf_plain::{BtfError, BtfKind};
-use btf_table::{Btf, type_count};
+use btf_table::{Btf, allocator_of, type_count};
 use btf_text::{
-    Selection, TextBuffer, find_layout, kind_name, write_dump, write_ext, write_layout,
+    HeaderTypes, Selection, TextBuffer, find_layout, kind_name, write_dump, write_ext,
+    write_header, write_layout,
 };
 use std::alloc::Global;
 use std::io::Write;
@@ -57,6 +58,53 @@ fn above<'a>(base: Option<&Btf>, selection: &Selection<'a>) -> Selection<'a> {
         from: Some(selection.from.unwrap_or(first).max(first)),
         ..*selection
     }
+}
+
+/// Writes types of a file's table as a C header, as `write_header` does: the types of these names and this kind, and the
+/// types that they need; without names and a kind, all types. With a base, its types come first. The table is parsed
+/// before anything is written. The error is `NoType` if no type has one of the names, and the kind.
+pub fn header<W: Write>(
+    alloc: Global,
+    bytes: &[u8],
+    base: Option<&Btf>,
+    names: &[&str],
+    kind: Option<BtfKind>,
+    out: &mut W,
+) -> Result<(), Fault> {
+    let table = InputFile::read(alloc, bytes)?.whole_table_over(alloc, base)?;
+    let mut text = TextBuffer::new(out);
+    if names.is_empty() && kind.is_none() {
+        write_header(alloc, &table, &HeaderTypes::All, &mut text)?;
+    } else {
+        let type_ids = selected(&table, names, kind)?;
+        write_header(alloc, &table, &HeaderTypes::Needed(&type_ids), &mut text)?;
+    }
+    text.flush()?;
+    Ok(())
+}
+
+/// The ids of the types of these names and this kind; without names, of this kind.
+fn selected(table: &Btf, names: &[&str], kind: Option<BtfKind>) -> Result<Vec<u32>, Fault> {
+    let any = Selection {
+        kind,
+        ..Selection::default()
+    };
+    if names.is_empty() {
+        return Ok(any.ids(table)?);
+    }
+    let mut type_ids = Vec::new(allocator_of(table));
+    for name in names {
+        let named = Selection {
+            name: Some(*name),
+            ..any
+        };
+        let ids = named.ids(table)?;
+        if ids.is_empty() {
+            return Err(Fault::NoType);
+        }
+        type_ids.extend_from_slice(&ids)?;
+    }
+    Ok(type_ids)
 }
 
 /// Writes the layout of the structure or union of a name, as `find_layout` finds it and `write_layout` writes it. The

@@ -49,6 +49,13 @@ pub enum Request<'a> {
         base: Option<&'a str>,
         selection: Selection<'a>,
     },
+    /// Writes types as a C header: all types, or those of these names or of this kind, and the types that they need.
+    Header {
+        file: &'a str,
+        base: Option<&'a str>,
+        names: Vec<&'a str>,
+        kind: Option<BtfKind>,
+    },
     /// Writes the layout of a structure or a union.
     Layout {
         file: &'a str,
@@ -102,6 +109,12 @@ pub fn read_request<'a>(alloc: Global, words: &'a [&'a str]) -> Result<Request<'
             file,
             base,
             selection: read_selection(&mut command, matches)?,
+        }),
+        "header" => Ok(Request::Header {
+            file,
+            base,
+            names: Vec::from_slice(alloc, matches.get_strs("names").unwrap_or(&[]))?,
+            kind: matches.get_str("kind").and_then(kind_of_name),
         }),
         "layout" => Ok(Request::Layout {
             file,

@@ -39,12 +39,20 @@ for object in *.o; do
     esac
     llvm-strip-14 --strip-debug --keep-section=.BTF --keep-section=.BTF.ext "$object"
     bpftool btf dump file "$object" format raw >"$object.bpftool" || rm "$object.bpftool"
+    bpftool btf dump file "$object" format c >"$object.header" || rm "$object.header"
     llvm-readelf-14 --sections --wide "$object" | sed -n 's/^ *\[ *[0-9]*\] //p' |
         awk '$1 ~ /^[.a-z]/ { print $1, $4, $5 }' >"$object.readelf"
     for name in everything bits node number event task_struct; do
         pahole -F btf -C "$name" "$object" || true
     done >"$object.pahole" 2>/dev/null
 done
+# Of the header of an object, the declarations that one structure needs, and those that the unions need.
+awk -v RS= -v ORS='\n\n' '/^#/ || / u(8|64);$/ || /^struct node/' clang14.bpfeb.kinds.o.header |
+    sed '$d' >clang14.bpfeb.kinds.o.node
+awk -v RS= -v ORS='\n\n' '/^#/ || / u(8|32);$/ || /^union number/' clang14.bpfeb.kinds.o.header |
+    sed '$d' >clang14.bpfeb.kinds.o.union
+# Tables that no compiler writes. names.btf.header is written by hand.
+python3 hostile.py
 for object in clang*.bpf*.o; do
     llvm-objdump-19 -d -l -r --no-show-raw-insn "$object" | awk -f lines.awk | LC_ALL=C sort >"$object.objdump"
 done
@@ -57,6 +65,7 @@ for module in 1 2 3; do
     pahole -J --btf_base base.btf module.o
     llvm-objcopy-14 --dump-section .BTF=module$module.btf module.o
     bpftool -B base.btf btf dump file module$module.btf format raw >module$module.btf.bpftool
+    bpftool -B base.btf btf dump file module$module.btf format c >module$module.btf.header
     for name in port cell device tcphdr; do
         pahole -F btf --btf_base base.btf -C $name module$module.btf || true
     done >module$module.btf.pahole 2>/dev/null

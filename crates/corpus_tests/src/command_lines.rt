@@ -4,7 +4,7 @@ use btfobj_cli::{Request, read_request};
 
 /// Words of a command line, and their request: a command, `text` for help or the version on standard output, or `usage`
 /// for an error.
-static ROWS: [(&[&str], &str); 42] = [
+static ROWS: [(&[&str], &str); 47] = [
     (&["btfobj", "dump", "a.o"], "dump"),
     (&["btfobj", "dump", "-", "--ids", "3..9"], "dump"),
     (
@@ -39,6 +39,16 @@ static ROWS: [(&[&str], &str); 42] = [
         &["btfobj", "sanitize", "m.btf", "--base", "vmlinux"],
         "usage",
     ),
+    (&["btfobj", "header", "a.o"], "header"),
+    (
+        &[
+            "btfobj", "header", "m.btf", "node", "event", "--base", "vmlinux", "--kind", "struct",
+        ],
+        "header",
+    ),
+    (&["btfobj", "header", "a.o", "--kind", "typedef"], "header"),
+    (&["btfobj", "header", "a.o", "--kind", "POINTER"], "usage"),
+    (&["btfobj", "header"], "usage"),
     (&["btfobj", "layout", "a.o", "node"], "layout"),
     (&["btfobj", "layout", "a.o"], "usage"),
     (&["btfobj", "ext", "a.o"], "ext"),
@@ -144,6 +154,7 @@ static ROWS: [(&[&str], &str); 42] = [
 fn command_name(request: &Request) -> &'static str {
     match request {
         Request::Dump { .. } => "dump",
+        Request::Header { .. } => "header",
         Request::Layout { .. } => "layout",
         Request::Ext { .. } => "ext",
         Request::Check { .. } => "check",

@@ -6,6 +6,7 @@
 mod command_lines;
 mod difference;
 mod ext;
+mod headers;
 mod json;
 mod kernels;
 mod malformed;
@@ -16,9 +17,10 @@ mod split_tables;
 
 use crate::command_lines::try_command_lines;
 use crate::ext::compare_ext;
+use crate::headers::try_headers;
 use crate::kernels::try_kernels;
 use crate::malformed::try_malformed;
-use crate::outputs::{NAMES, compare_dump, compare_layouts, compare_sections};
+use crate::outputs::{NAMES, compare_dump, compare_header, compare_layouts, compare_sections};
 use crate::relocations::{RELOCATED, compare_relocations};
 use crate::samples::SAMPLES;
 use crate::split_tables::try_split_tables;
@@ -34,6 +36,7 @@ fn read(rt: &HostRuntime, sample: &str, tool: &str) -> anyhow::Result<Vec<u8>> {
 fn try_sample(rt: &HostRuntime, sample: &'static str) -> anyhow::Result<()> {
     let object = read(rt, sample, "")?;
     compare_dump(rt, sample, &object, None, &read(rt, sample, ".bpftool")?)?;
+    compare_header(rt, sample, &object, None, &read(rt, sample, ".header")?)?;
     compare_layouts(
         rt,
         sample,
@@ -60,6 +63,7 @@ fn main(rt: HostRuntime) -> anyhow::Result<()> {
         compare_relocations(&rt, sample, &read(&rt, sample, "")?)?;
         println!(&rt; "{sample}: relocated")?;
     }
+    try_headers(&rt)?;
     try_split_tables(&rt)?;
     for sample in ["clang14.bpfel.prog", "clang14.bpfeb.prog"] {
         try_malformed(&rt, sample, &read(&rt, sample, "")?)?;

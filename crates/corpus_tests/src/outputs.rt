@@ -4,7 +4,7 @@ use crate::difference::first_difference;
 use btf_elf::Object;
 use btf_table::Btf;
 use btf_text::Selection;
-use btfobj_cli::{Fault, dump, layout};
+use btfobj_cli::{Fault, dump, header, layout};
 use std::fmt::Write;
 
 /// The structures and unions of an object, in the order in which `pahole` was asked for them.
@@ -42,6 +42,19 @@ pub fn compare_dump(
     let mut ours = Vec::new(rt.alloc());
     dump(rt.alloc(), object, base, &Selection::default(), &mut ours)?;
     report(rt, sample, "bpftool", &ours, theirs)
+}
+
+/// Compares the C header of a file, over its base if it has one, with the text of `bpftool`.
+pub fn compare_header(
+    rt: &HostRuntime,
+    sample: &str,
+    object: &[u8],
+    base: Option<&Btf>,
+    theirs: &[u8],
+) -> anyhow::Result<()> {
+    let mut ours = Vec::new(rt.alloc());
+    header(rt.alloc(), object, base, &[], None, &mut ours)?;
+    report(rt, sample, "bpftool's header", &ours, theirs)
 }
 
 /// Compares the layouts of the structures and unions of these names in a file, over its base if it has one, with the

@@ -1,6 +1,6 @@
 //! Split tables over a base, beside the outputs of other tools.
 
-use crate::outputs::{compare_dump, compare_layouts};
+use crate::outputs::{compare_dump, compare_header, compare_layouts};
 use btf_elf::Endianness;
 use btf_split::{parse_split, split_bytes, string_len};
 use btf_table::{Btf, type_count};
@@ -25,6 +25,7 @@ fn read(rt: &HostRuntime, module: &str, tool: &str) -> anyhow::Result<Vec<u8>> {
 fn try_module(rt: &HostRuntime, module: &str, base: &Btf) -> anyhow::Result<()> {
     let data = fs::read(rt, module)?;
     compare_dump(rt, module, &data, Some(base), &read(rt, module, "bpftool")?)?;
+    compare_header(rt, module, &data, Some(base), &read(rt, module, "header")?)?;
     compare_layouts(
         rt,
         module,

@@ -4,7 +4,7 @@ use crate::error::TextError;
 use crate::word::text_at;
 use btf_plain::BtfKind;
 use btf_records::BtfType;
-use btf_table::Btf;
+use btf_table::{Btf, allocator_of, type_count};
 
 /// A selection of types of a table: the types that meet all of the given conditions.
 #[derive(Clone, Copy, Debug, Default)]
@@ -20,6 +20,17 @@ pub struct Selection<'a> {
 }
 
 impl Selection<'_> {
+    /// The ids of the selected types of a table, in rising order; id 0 is none of them. `OutOfMemory` is the only error.
+    pub fn ids(&self, table: &Btf) -> Result<Vec<u32>, TextError> {
+        let mut ids = Vec::new(allocator_of(table));
+        for (id, btf_type) in (0..type_count(table)).zip(table.types()) {
+            if id > 0 && self.has(table, id as usize, btf_type)? {
+                ids.push(id)?;
+            }
+        }
+        Ok(ids)
+    }
+
     /// Whether a type of a table is selected. `OutOfMemory` is the only error.
     pub(crate) fn has(
         &self,

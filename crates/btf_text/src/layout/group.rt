@@ -58,12 +58,21 @@ impl<'a> Group<'a> {
         u64::from(self.size) * 8
     }
 
+    /// The first bit of a member.
+    pub fn bit_offset(&self, member: &BtfMember) -> u64 {
+        self.btf_type.member_bit_offset(member).unwrap_or(0) as u64
+    }
+
+    /// The number of bits of a bit-field; 0 for another member.
+    pub fn bit_field_size(&self, member: &BtfMember) -> u64 {
+        self.btf_type.member_bit_field_size(member).unwrap_or(0) as u64
+    }
+
     /// The position of the member of this index. The integer of a bit-field begins at a multiple of its own size. The
     /// errors are those of `Btf::type_size`.
     pub fn place(&self, table: &Btf, index: usize, member: &BtfMember) -> Result<Place, BtfError> {
         let size = table.type_size(member.btf_type)? as u64;
-        let bit = self.btf_type.member_bit_offset(member).unwrap_or(0) as u64;
-        let bits = self.btf_type.member_bit_field_size(member).unwrap_or(0) as u64;
+        let (bit, bits) = (self.bit_offset(member), self.bit_field_size(member));
         let past = if bits > 0 && size > 0 {
             bit / 8 % size
         } else {

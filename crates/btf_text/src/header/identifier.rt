@@ -1,0 +1,158 @@
+//! Identifiers of C.
+
+use std::alloc::AllocError;
+
+/// The words that are no identifiers in C11 or in its GNU dialect, in the order of bytes.
+static KEYWORDS: [&str; 83] = [
+    "_Alignas",
+    "_Alignof",
+    "_Atomic",
+    "_BitInt",
+    "_Bool",
+    "_Complex",
+    "_Float16",
+    "_Generic",
+    "_Imaginary",
+    "_Noreturn",
+    "_Static_assert",
+    "_Thread_local",
+    "__FUNCTION__",
+    "__PRETTY_FUNCTION__",
+    "__alignof",
+    "__alignof__",
+    "__asm",
+    "__asm__",
+    "__attribute",
+    "__attribute__",
+    "__auto_type",
+    "__builtin_offsetof",
+    "__builtin_types_compatible_p",
+    "__builtin_va_arg",
+    "__complex",
+    "__complex__",
+    "__const",
+    "__const__",
+    "__extension__",
+    "__float128",
+    "__func__",
+    "__imag",
+    "__imag__",
+    "__inline",
+    "__inline__",
+    "__int128",
+    "__label__",
+    "__null",
+    "__real",
+    "__real__",
+    "__restrict",
+    "__restrict__",
+    "__signed",
+    "__signed__",
+    "__thread",
+    "__typeof",
+    "__typeof__",
+    "__volatile",
+    "__volatile__",
+    "asm",
+    "auto",
+    "break",
+    "case",
+    "char",
+    "const",
+    "continue",
+    "default",
+    "do",
+    "double",
+    "else",
+    "enum",
+    "extern",
+    "float",
+    "for",
+    "goto",
+    "if",
+    "inline",
+    "int",
+    "long",
+    "register",
+    "restrict",
+    "return",
+    "short",
+    "signed",
+    "sizeof",
+    "static",
+    "struct",
+    "switch",
+    "typedef",
+    "typeof",
+    "union",
+    "unsigned",
+    "void",
+];
+
+/// The other keywords, which come after `void` in the order of bytes.
+static LAST_KEYWORDS: [&str; 2] = ["volatile", "while"];
+
+/// The words of which C's names of numbers are made.
+static NUMBER_WORDS: [&str; 15] = [
+    "_Bool",
+    "_Complex",
+    "__int128",
+    "__int128_t",
+    "__uint128_t",
+    "_Float16",
+    "__float128",
+    "char",
+    "short",
+    "int",
+    "long",
+    "signed",
+    "unsigned",
+    "float",
+    "double",
+];
+
+/// Whether a text is an identifier of C: letters of ASCII, digits and `_`, no digit first, and no keyword.
+pub fn is_identifier(text: &str) -> bool {
+    let bytes = text.as_bytes();
+    match bytes.first() {
+        Some(first) if first.is_ascii_digit() => false,
+        Some(_) => bytes.iter().all(|byte| is_word_byte(*byte)) && !is_keyword(text),
+        None => false,
+    }
+}
+
+/// Whether a text is a name of numbers in C, such as `long unsigned int`.
+pub fn is_number_name(text: &str) -> bool {
+    text.split(' ').all(|word| NUMBER_WORDS.contains(&word))
+}
+
+/// Whether a byte may be in an identifier.
+fn is_word_byte(byte: u8) -> bool {
+    byte.is_ascii_alphanumeric() || byte == b'_'
+}
+
+/// Whether a word of letters, digits and `_` is a keyword.
+fn is_keyword(word: &str) -> bool {
+    matches!(word.as_bytes().first(), Some(b'_' | b'a'..=b'w'))
+        && (KEYWORDS.binary_search(&word).is_ok() || LAST_KEYWORDS.contains(&word))
+}
+
+/// Adds an identifier for a text that is none: a byte that may not be in an identifier is written as its two
+/// hexadecimal digits between `_`, and `_` is added before a digit, after a keyword, and for an empty text.
+pub fn add_escaped(word: &mut String, text: &str) -> Result<(), AllocError> {
+    let bytes = text.as_bytes();
+    if bytes.first().is_none_or(|first| first.is_ascii_digit()) {
+        word.push_str("_")?;
+    }
+    for byte in bytes {
+        if is_word_byte(*byte) {
+            word.push(char::from(*byte))?;
+        } else {
+            write!(word, "_{byte:02x}_")?;
+        }
+    }
+    if is_keyword(text) {
+        word.push_str("_")?;
+    }
+    Ok(())
+}
