@@ -1,8 +1,8 @@
 -- The head of the record at a place.
-use Rattle.std.proofs.Common.{◌≡◌, ℕ, ◌+◌, ◌<◌, ◌≤◌, List, length, take, drop, Some, refl, sym, ap, subst, ◌∙◌, arith, inl, inr}
+use Rattle.std.proofs.Common.{◌≡◌, ℕ, ◌+◌, ◌<◌, ◌≤◌, List, [], length, take, drop, Some, refl, sym, ap, subst, ◌∙◌, arith, inl, inr}
 use Rattle.std.proofs.lemmas.List.{length-drop, drop-drop}
 use Rattle.btf_model.specs.declared.endianness.Endianness.{Endianness}
-use Rattle.btf_model.specs.Record.{Kind, Record, kind_of, vlen, tail_words, unknown}
+use Rattle.btf_model.specs.Record.{Kind, Unknown, Record, kind_of, vlen, tail_words, unknown}
 use Rattle.btf_model.specs.Word.{word_of, words_at}
 use Rattle.btf_model.specs.Blob.{word_at}
 use Rattle.btf_model.specs.Spelling.{kept}
@@ -10,7 +10,7 @@ use Rattle.btf_model.proofs.Reading.{info_at}
 use Rattle.btf_plain.specs.declared.head.Head.{Head}
 use Rattle.btf_plain.specs.Head.{IsHead, headed}
 use Rattle.btf_view.specs.Places.{IsPlace}
-use Rattle.btf_view.specs.Record.{HasHead}
+use Rattle.btf_view.specs.Record.{HasHead, IsReadAs}
 use Rattle.btf_view.proofs.Front.{begins, after_head}
 
 -- a place at which no head fits is past the section
@@ -18,16 +18,26 @@ pub nothing_there : (order : Endianness) (types : List ℕ) (place : ℕ) (r : R
 nothing_there order types place r lt (inl read) = absurd (omega (arith, (begins order (drop place types) r read).long, lt))
 nothing_there order types place r lt (inr past) = past.1
 
--- what reading retains of a head is the head of what it retains of the record
-pub head_there : (order : Endianness) (types bytes : List ℕ) (place : ℕ) (r : Record) (head result : Head) (rest : List ℕ) → bytes ≡ drop place types → IsHead order bytes head rest → ((k : Kind) (tail : List ℕ) → kind_of head.info ≡ Some k → HasHead result (kept k (headed head tail))) → IsPlace order types place r → HasHead result r
-head_there order types bytes place r head result rest is h retains (inl read) =
+-- the head at a place is that of the record there
+pub head_there : (order : Endianness) (types : List ℕ) (place : ℕ) (r : Record) (head : Head) (rest : List ℕ) → IsHead order (drop place types) head rest → IsPlace order types place r → IsReadAs head r
+head_there order types place r head rest h (inl read) =
     let b = begins order (drop place types) r read in
-    let at = subst (λ (x : List ℕ). IsHead order x head rest) is h in
     let n = tail_words b.kind (vlen (info_at order (drop place types))) in
-    subst (HasHead result) (sym (b.is ∙ ap (kept b.kind) (after_head order (drop place types) head rest n at)))
-    (retains b.kind (words_at order n rest) (ap kind_of at.info ∙ b.has))
-head_there order types bytes place r head result rest is h retains (inr past) =
-    absurd (omega (arith, h.long, ap length is, length-drop place types, past.0))
+    record {
+      kind = b.kind;
+      tail = words_at order n rest;
+      has = ap kind_of h.info ∙ b.has;
+      is = b.is ∙ ap (kept b.kind) (after_head order (drop place types) head rest n h);
+    }
+head_there order types place r head rest h (inr past) = absurd (omega (arith, h.long, length-drop place types, past.0))
+
+-- no words are those of Unknown
+pub nothing_read : (r : Record) → r ≡ unknown → IsReadAs (record { name = 0; info = 0; third = 0 }) r
+nothing_read r is = record { kind = Unknown; tail = []; has = refl; is = is }
+
+-- what reading retains of the head is the head of the record
+pub retained : (raw head : Head) (r : Record) → IsReadAs raw r → ((k : Kind) (tail : List ℕ) → kind_of raw.info ≡ Some k → HasHead head (kept k (headed raw tail))) → HasHead head r
+retained raw head r read retains = subst (HasHead head) (sym read.is) (retains read.kind read.tail read.has)
 
 -- the three words at a place
 pub head_in : (order : Endianness) (types : List ℕ) (place a b c : ℕ) → a ≡ word_at order place types → b ≡ word_at order (place + 4) types → c ≡ word_at order (place + 8) types → place + 12 ≤ length types → IsHead order (drop place types) (record { name = a; info = b; third = c }) (drop 4 (drop 4 (drop 4 (drop place types))))

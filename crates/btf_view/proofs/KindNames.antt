@@ -5,6 +5,7 @@ use Rattle.std.proofs.lemmas.Option.{same_Some, slice_get_within, slice_get-map}
 use Rattle.std.specs.Option.{option_map}
 use Rattle.btf_model.specs.Record as model
 use Rattle.btf_model.specs.Record.{Kind, Record, kind_number, kind_of}
+use Rattle.btf_model.specs.Spelling.{kept}
 use Rattle.btf_plain.specs.Kind.{kind}
 use Rattle.btf_plain.specs.declared.kind.BtfKind.{BtfKind}
 use Rattle.btf_plain.specs.declared.kind.BtfKind.TheVariants as code
@@ -58,6 +59,29 @@ one_number n m k a b = omega (arith, placed_kind n k a, placed_kind m k b)
 -- the kind in an info word
 pub kind_in : (info number : ℕ) (k : BtfKind) → slice_get model.kinds number ≡ Some (kind k) → number ≡ kind_number info → kind_of info ≡ Some (kind k)
 kind_in info number k there is = ap (slice_get model.kinds) (sym is) ∙ there
+
+-- reading retains the kind
+pub kept_kind : (k : Kind) (r : Record) → kind_of r.info ≡ Some k → kind_of (kept k r).info ≡ Some k
+kept_kind model.Unknown r is = refl
+kept_kind model.Int r is = is
+kept_kind model.Ptr r is = is
+kept_kind model.Array r is = is
+kept_kind model.Struct r is = is
+kept_kind model.Union r is = is
+kept_kind model.Enum r is = is
+kept_kind model.Fwd r is = is
+kept_kind model.Typedef r is = is
+kept_kind model.Volatile r is = is
+kept_kind model.Const r is = is
+kept_kind model.Restrict r is = is
+kept_kind model.Func r is = is
+kept_kind model.FuncProto r is = is
+kept_kind model.Var r is = is
+kept_kind model.DataSec r is = is
+kept_kind model.Float r is = is
+kept_kind model.DeclTag r is = is
+kept_kind model.TypeTag r is = is
+kept_kind model.Enum64 r is = is
 
 -- the kinds without members
 pub no_members : (k : BtfKind) (r : Record) → k ≢ code.Struct → k ≢ code.Union → members (kind k) r ≡ None

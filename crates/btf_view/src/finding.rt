@@ -7,7 +7,7 @@ ghost use Rattle.btf_plain.specs.Kind as kinds;
 ghost use Rattle.btf_view.specs.Finding.{LooksUp};
 ghost use Rattle.btf_view.specs.Places.{AreIndexed};
 
-use crate::record::head_at;
+use crate::record::{kept_head, raw_head_at};
 use crate::text::{has_name_at, is_comparable, readable_end};
 use btf_plain::{BtfKind, Endianness};
 
@@ -72,10 +72,11 @@ pub(crate) fn find_in(
     let end = readable_end(strings);
     let ids = places.len().min(u32::MAX as usize);
     for id in 0..ids {
-        let head = head_at(types, places[id], endianness);
-        if head.kind() != number {
+        let raw = raw_head_at(types, places[id], endianness);
+        if raw.kind() != number {
             continue;
         }
+        let head = kept_head(raw);
         if head.name as usize >= end {
             return Lookup::Unreadable(head.name);
         }

@@ -6,7 +6,7 @@ ghost use Rattle.btf_model.specs.Record.{Record, Kind, kind_of};
 ghost use Rattle.btf_model.specs.Spelling.{kept};
 ghost use Rattle.btf_plain.specs.Head.{headed};
 ghost use Rattle.btf_view.specs.Places.{IsPlace};
-ghost use Rattle.btf_view.specs.Record.{HasHead, HasTail};
+ghost use Rattle.btf_view.specs.Record.{HasHead, HasTail, IsReadAs};
 
 use btf_plain::{BtfKind, Endianness, Head};
 
@@ -16,7 +16,11 @@ pub(crate) fn word_at(bytes: &[u8], at: usize, endianness: Endianness) -> u32
     requires { at + 4 ≤ length bytes.now }
     ensures { result ≡ blob.word_at endianness at bytes.now }
 {
-    endianness.read_u32([bytes[at], bytes[at + 1], bytes[at + 2], bytes[at + 3]])
+    // As four bytes in one piece, so that the word is one load.
+    match bytes[at..at + 4].first_chunk::<4>() {
+        Some(word) => endianness.read_u32(*word),
+        None => 0,
+    }
 }
 
 /// No words: the head of the type of id 0.
@@ -28,7 +32,7 @@ const NO_HEAD: Head = Head {
 
 /// What reading retains of a head.
 #[inline(always)]
-fn kept_head(head: Head) -> Head
+pub(crate) fn kept_head(head: Head) -> Head
     ensures { (k : Kind) (tail : List ℕ) → kind_of head.info ≡ Some k
         → HasHead result (kept k (headed head tail)) }
 {
@@ -43,20 +47,28 @@ fn kept_head(head: Head) -> Head
     }
 }
 
-/// The first three words of the record at a place, or zeroes if there is none. There is one check for the three.
+/// The first three words at a place, or zeroes if there are none. There is one check for the three.
 #[inline(always)]
-pub(crate) fn head_at(types: &[u8], place: u32, endianness: Endianness) -> Head
-    ensures { (r : Record) → IsPlace endianness types.now place r → HasHead result r }
+pub(crate) fn raw_head_at(types: &[u8], place: u32, endianness: Endianness) -> Head
+    ensures { (r : Record) → IsPlace endianness types.now place r → IsReadAs result r }
 {
     let at = place as usize;
     if types.len() < at + 12 {
         return NO_HEAD;
     }
-    kept_head(Head {
+    Head {
         name: word_at(types, at, endianness),
         info: word_at(types, at + 4, endianness),
         third: word_at(types, at + 8, endianness),
-    })
+    }
+}
+
+/// The first three words of the record at a place, or zeroes if there is none.
+#[inline(always)]
+pub(crate) fn head_at(types: &[u8], place: u32, endianness: Endianness) -> Head
+    ensures { (r : Record) → IsPlace endianness types.now place r → HasHead result r }
+{
+    kept_head(raw_head_at(types, place, endianness))
 }
 
 /// The bytes after the first three words of the record at a place; none if the place is past the section.
