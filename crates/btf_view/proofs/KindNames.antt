@@ -9,7 +9,11 @@ use Rattle.btf_model.specs.Spelling.{kept}
 use Rattle.btf_plain.specs.Kind.{kind}
 use Rattle.btf_plain.specs.declared.kind.BtfKind.{BtfKind}
 use Rattle.btf_plain.specs.declared.kind.BtfKind.TheVariants as code
+use Rattle.btf_model.specs.Walk.{extent}
+use Rattle.btf_plain.specs.Head.{headed}
+use Rattle.btf_plain.specs.declared.head.Head.{Head}
 use Rattle.btf_view.specs.Forms.{members}
+use Rattle.btf_view.specs.Record.{HasHead}
 
 abbrev number_of : Kind → ℕ
 number_of model.Unknown = 0
@@ -82,6 +86,52 @@ kept_kind model.Float r is = is
 kept_kind model.DeclTag r is = is
 kept_kind model.TypeTag r is = is
 kept_kind model.Enum64 r is = is
+
+-- reading does not change what a record gives for its size
+pub kept_extent : (k : Kind) (r : Record) → extent (Some k) (kept k r) ≡ extent (Some k) r
+kept_extent model.Unknown r = refl
+kept_extent model.Int r = refl
+kept_extent model.Ptr r = refl
+kept_extent model.Array r = refl
+kept_extent model.Struct r = refl
+kept_extent model.Union r = refl
+kept_extent model.Enum r = refl
+kept_extent model.Fwd r = refl
+kept_extent model.Typedef r = refl
+kept_extent model.Volatile r = refl
+kept_extent model.Const r = refl
+kept_extent model.Restrict r = refl
+kept_extent model.Func r = refl
+kept_extent model.FuncProto r = refl
+kept_extent model.Var r = refl
+kept_extent model.DataSec r = refl
+kept_extent model.Float r = refl
+kept_extent model.DeclTag r = refl
+kept_extent model.TypeTag r = refl
+kept_extent model.Enum64 r = refl
+
+-- the kinds of which reading retains the whole head
+pub whole_head : (k : Kind) (head : Head) (tail : List ℕ) → k ≢ model.Unknown → k ≢ model.Array → k ≢ model.Fwd → HasHead head (kept k (headed head tail))
+whole_head model.Unknown head tail u a f = absurd (u refl)
+whole_head model.Array head tail u a f = absurd (a refl)
+whole_head model.Fwd head tail u a f = absurd (f refl)
+whole_head model.Int head tail u a f = record { name = refl; info = refl; third = refl }
+whole_head model.Ptr head tail u a f = record { name = refl; info = refl; third = refl }
+whole_head model.Struct head tail u a f = record { name = refl; info = refl; third = refl }
+whole_head model.Union head tail u a f = record { name = refl; info = refl; third = refl }
+whole_head model.Enum head tail u a f = record { name = refl; info = refl; third = refl }
+whole_head model.Typedef head tail u a f = record { name = refl; info = refl; third = refl }
+whole_head model.Volatile head tail u a f = record { name = refl; info = refl; third = refl }
+whole_head model.Const head tail u a f = record { name = refl; info = refl; third = refl }
+whole_head model.Restrict head tail u a f = record { name = refl; info = refl; third = refl }
+whole_head model.Func head tail u a f = record { name = refl; info = refl; third = refl }
+whole_head model.FuncProto head tail u a f = record { name = refl; info = refl; third = refl }
+whole_head model.Var head tail u a f = record { name = refl; info = refl; third = refl }
+whole_head model.DataSec head tail u a f = record { name = refl; info = refl; third = refl }
+whole_head model.Float head tail u a f = record { name = refl; info = refl; third = refl }
+whole_head model.DeclTag head tail u a f = record { name = refl; info = refl; third = refl }
+whole_head model.TypeTag head tail u a f = record { name = refl; info = refl; third = refl }
+whole_head model.Enum64 head tail u a f = record { name = refl; info = refl; third = refl }
 
 -- the kinds without members
 pub no_members : (k : BtfKind) (r : Record) → k ≢ code.Struct → k ≢ code.Union → members (kind k) r ≡ None

@@ -30,9 +30,25 @@ const NO_HEAD: Head = Head {
     third: 0,
 };
 
-/// What reading retains of a head.
+/// A bit for the number of each kind of which reading does not retain the whole head: Unknown, ARRAY and FWD.
+const DROPPING: u32 = 0x89;
+
+/// What reading retains of a head. Most types have a kind of which it retains all, and one test finds that out.
 #[inline(always)]
 pub(crate) fn kept_head(head: Head) -> Head
+    ensures { (k : Kind) (tail : List ℕ) → kind_of head.info ≡ Some k
+        → HasHead result (kept k (headed head tail)) }
+{
+    if DROPPING >> head.kind() & 1 == 0 {
+        return head;
+    }
+    dropped_head(head)
+}
+
+/// The same, kind by kind.
+#[cold]
+#[inline(never)]
+fn dropped_head(head: Head) -> Head
     ensures { (k : Kind) (tail : List ℕ) → kind_of head.info ≡ Some k
         → HasHead result (kept k (headed head tail)) }
 {

@@ -11,7 +11,7 @@ ghost use Rattle.btf_view.specs.Extent.{extent_of};
 ghost use Rattle.btf_view.specs.Many.{FillsSizes, SizeOrMost};
 ghost use Rattle.btf_view.specs.Places.{AreIndexed, IsPlace};
 
-use crate::record::{head_at, word_at};
+use crate::record::{raw_head_at, word_at};
 use crate::walk::{WALK_LIMIT, places_from};
 use btf_plain::{BtfError, BtfKind, Endianness};
 
@@ -60,13 +60,13 @@ fn plain_extent(kind: BtfKind, third: u32) -> Extent
     }
 }
 
-/// What the type at a place gives for its size.
+/// What the type at a place gives for its size. A word that reading drops gives nothing.
 #[inline(always)]
 fn extent_at(types: &[u8], place: u32, endianness: Endianness) -> Extent
     ensures { (r : Record) → IsPlace endianness types.now place r
         → extent_of result ≡ model.extent (kind_of r.info) r }
 {
-    let head = head_at(types, place, endianness);
+    let head = raw_head_at(types, place, endianness);
     let Ok(kind) = BtfKind::try_from(head.kind()) else {
         return Extent::Nothing;
     };
