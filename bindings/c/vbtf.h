@@ -19,6 +19,7 @@
 #include <stdbool.h>
 #include <stddef.h>
 #include <stdint.h>
+#include <stdlib.h>
 
 #ifdef __cplusplus
 extern "C" {
@@ -196,6 +197,35 @@ struct vbtf_name_bytes {
 	size_t len;
 };
 
+/* ---- views */
+
+/* What a blob has. Offsets and lengths are in bytes. */
+struct vbtf_view_parts {
+	uint64_t types_at;       /* the type section in the blob */
+	uint64_t types_len;
+	uint64_t strings_at;     /* the string section in the blob */
+	uint64_t strings_len;
+	uint64_t names_len;      /* a name can be read at each string offset below it, and at no other */
+	uint64_t count;          /* the number of types, including the type of id 0 */
+	uint32_t order;          /* VBTF_LITTLE or VBTF_BIG */
+	uint16_t magic;          /* of the header; magic, version and flags are not checked */
+	uint8_t version;
+	uint8_t flags;
+};
+
+/*
+ * A view: a table that is only read. It has the caller's blob, which has to stay as it is, and 4 bytes for each type.
+ * A view has no state: any number of threads can read one, and each can have a copy of the struct.
+ */
+struct vbtf_view {
+	const uint8_t *types;
+	const uint8_t *strings;
+	uint32_t *places;        /* where each record begins in the types */
+	struct vbtf_view_parts parts;
+};
+
+#define VBTF_VIEW_INIT { NULL, NULL, NULL, { 0, 0, 0, 0, 0, 0, 0, 0, 0, 0 } }
+
 /* Where the bytes of a section are in an object, and the byte order of the object. */
 struct vbtf_section {
 	uint64_t offset;
@@ -372,6 +402,25 @@ uint32_t vbtf_lent_fields_compatible(struct vbtf_table *local, uint32_t id, stru
                                      bool *answer, struct vbtf_error *error);
 uint32_t vbtf_lent_types_compatible(struct vbtf_table *local, uint32_t id, struct vbtf_table *target, uint32_t other,
                                     bool *answer, struct vbtf_error *error);
+
+uint32_t vbtf_raw_view_index(const uint8_t *data, size_t len, uint32_t order, uint32_t *places, size_t room,
+                             struct vbtf_view_parts *parts, struct vbtf_error *error);
+uint32_t vbtf_raw_view_types(const uint8_t *types, size_t types_len, const uint32_t *places, size_t places_len,
+                             uint32_t order, uint32_t first, struct vbtf_type *out, size_t room, uint64_t *count);
+uint32_t vbtf_raw_view_sizes(const uint8_t *types, size_t types_len, const uint32_t *places, size_t places_len,
+                             uint32_t order, uint32_t first, uint64_t *out, size_t room, uint64_t *count);
+uint32_t vbtf_raw_view_resolved(const uint8_t *types, size_t types_len, const uint32_t *places, size_t places_len,
+                                uint32_t order, uint32_t first, uint32_t *out, size_t room, uint64_t *count);
+uint32_t vbtf_raw_view_size(const uint8_t *types, size_t types_len, const uint32_t *places, size_t places_len,
+                            uint32_t order, uint32_t id, uint64_t *size, struct vbtf_error *error);
+uint32_t vbtf_raw_view_resolve(const uint8_t *types, size_t types_len, const uint32_t *places, size_t places_len,
+                               uint32_t order, uint32_t id, uint32_t *to, struct vbtf_error *error);
+uint32_t vbtf_raw_view_members(const uint8_t *types, size_t types_len, const uint32_t *places, size_t places_len,
+                               uint32_t order, uint32_t id, struct vbtf_member *out, size_t room, uint64_t *count,
+                               struct vbtf_error *error);
+uint32_t vbtf_raw_view_find(const uint8_t *types, size_t types_len, const uint8_t *strings, size_t strings_len,
+                            const uint32_t *places, size_t places_len, uint32_t order, const uint8_t *name, size_t len,
+                            uint32_t kind, uint32_t *id, struct vbtf_error *error);
 
 uint32_t vbtf_raw_rewrite(struct vbtf_table *table, const uint8_t *section_names, size_t section_names_len,
                           const struct vbtf_named *sections, size_t section_count, const uint8_t *symbol_names,
@@ -1215,6 +1264,153 @@ VBTF_INLINE uint32_t vbtf_relocate(const struct vbtf_table *local, const struct 
 	struct vbtf_error unread;
 	struct vbtf_table here = vbtf_loan(local), there = vbtf_loan(target);
 	return vbtf_lent_relocate(&here, &there, relocation, relocated, vbtf_error_or(error, &unread));
+}
+
+/* ---- views: tables that are only read */
+
+/*
+ * Opens a view of a blob, without a copy: allocates 4 bytes for each type. The blob has to stay as it is until the view
+ * is closed. VBTF_INVALID_HEADER, VBTF_INVALID_TYPE_INFO, VBTF_INVALID_TYPE_KIND: the first error, as of vbtf_parse.
+ * After an error the view is unchanged.
+ */
+VBTF_INLINE uint32_t vbtf_view_open(struct vbtf_view *view, const void *data, size_t len, uint32_t order,
+                                    struct vbtf_error *error)
+{
+	struct vbtf_error unread;
+	const uint8_t *bytes = vbtf_bytes_or_none(data);
+	struct vbtf_view_parts parts = { 0, 0, 0, 0, 0, 0, 0, 0, 0, 0 };
+	/* Each record has at least 12 bytes. Pages of it that no record needs are never touched. */
+	size_t room = len / 12 + 1;
+	uint32_t *places = (uint32_t *)malloc(room * sizeof *places), *fitting;
+	uint32_t status = VBTF_OUT_OF_MEMORY;
+
+	if (!places)
+		return vbtf_describe(error, VBTF_OUT_OF_MEMORY, 0);
+	status = vbtf_raw_view_index(bytes, len, order, places, room, &parts, vbtf_error_or(error, &unread));
+	if (status != VBTF_OK) {
+		free(places);
+		return status;
+	}
+	fitting = (uint32_t *)realloc(places, parts.count * sizeof *places);
+	view->types = bytes + parts.types_at;
+	view->strings = bytes + parts.strings_at;
+	view->places = fitting ? fitting : places;
+	view->parts = parts;
+	return VBTF_OK;
+}
+
+/* Frees the places of a view. The blob is the caller's. */
+VBTF_INLINE void vbtf_view_close(struct vbtf_view *view)
+{
+	struct vbtf_view none = VBTF_VIEW_INIT;
+	free(view->places);
+	*view = none;
+}
+
+/* The number of types, including the type of id 0; 0 for a closed view. */
+VBTF_INLINE uint64_t vbtf_view_count(const struct vbtf_view *view)
+{
+	return view->parts.count;
+}
+
+/* A closed view has no bytes; a pointer that is passed with a length of 0 is still no null pointer. */
+static inline const uint8_t *vbtf_view_types_at(const struct vbtf_view *view)
+{
+	return vbtf_bytes_or_none(view->types);
+}
+
+static inline const uint32_t *vbtf_view_places(const struct vbtf_view *view)
+{
+	static const uint32_t none = 0;
+	return view->places ? view->places : &none;
+}
+
+/*
+ * The kind and the first words of the types from the id `first` on, in one call: as many types as there are and as fit
+ * in the buffer. Their number goes to `count`; it is 0 if no type has the id `first`.
+ */
+VBTF_INLINE uint32_t vbtf_view_types(const struct vbtf_view *view, uint32_t first, struct vbtf_type *out, size_t room,
+                                     uint64_t *count)
+{
+	struct vbtf_type none;
+	return vbtf_raw_view_types(vbtf_view_types_at(view), view->parts.types_len, vbtf_view_places(view),
+	                           view->parts.count, view->parts.order, first, out ? out : &none, out ? room : 0, count);
+}
+
+/* The kind and the first words of the type of an id; VBTF_UNKNOWN_TYPE if there is none. */
+VBTF_INLINE uint32_t vbtf_view_type(const struct vbtf_view *view, uint32_t id, struct vbtf_type *type,
+                                    struct vbtf_error *error)
+{
+	uint64_t count = 0;
+	vbtf_view_types(view, id, type, 1, &count);
+	return count ? VBTF_OK : vbtf_describe(error, VBTF_UNKNOWN_TYPE, id);
+}
+
+/* The name at a string offset in the blob, up to its zero byte; null if no name is at the offset. */
+VBTF_INLINE const char *vbtf_view_name(const struct vbtf_view *view, uint32_t offset)
+{
+	return offset < view->parts.names_len ? (const char *)view->strings + offset : NULL;
+}
+
+/* What vbtf_members writes. */
+VBTF_INLINE uint32_t vbtf_view_members(const struct vbtf_view *view, uint32_t id, struct vbtf_member *out, size_t room,
+                                       uint64_t *count, struct vbtf_error *error)
+{
+	struct vbtf_error unread;
+	struct vbtf_member none;
+	return vbtf_raw_view_members(vbtf_view_types_at(view), view->parts.types_len, vbtf_view_places(view),
+	                             view->parts.count, view->parts.order, id, out ? out : &none, out ? room : 0, count,
+	                             vbtf_error_or(error, &unread));
+}
+
+/* The size of a type in bytes, as vbtf_size gives it. */
+VBTF_INLINE uint32_t vbtf_view_size(const struct vbtf_view *view, uint32_t id, uint64_t *size,
+                                    struct vbtf_error *error)
+{
+	struct vbtf_error unread;
+	return vbtf_raw_view_size(vbtf_view_types_at(view), view->parts.types_len, vbtf_view_places(view),
+	                          view->parts.count, view->parts.order, id, size, vbtf_error_or(error, &unread));
+}
+
+/* What an id resolves to, as vbtf_resolve gives it. */
+VBTF_INLINE uint32_t vbtf_view_resolve(const struct vbtf_view *view, uint32_t id, uint32_t *to,
+                                       struct vbtf_error *error)
+{
+	struct vbtf_error unread;
+	return vbtf_raw_view_resolve(vbtf_view_types_at(view), view->parts.types_len, vbtf_view_places(view),
+	                             view->parts.count, view->parts.order, id, to, vbtf_error_or(error, &unread));
+}
+
+/* What vbtf_sizes writes. */
+VBTF_INLINE uint32_t vbtf_view_sizes(const struct vbtf_view *view, uint32_t first, uint64_t *out, size_t room,
+                                     uint64_t *count)
+{
+	uint64_t none;
+	return vbtf_raw_view_sizes(vbtf_view_types_at(view), view->parts.types_len, vbtf_view_places(view),
+	                           view->parts.count, view->parts.order, first, out ? out : &none, out ? room : 0, count);
+}
+
+/* What vbtf_resolved writes. */
+VBTF_INLINE uint32_t vbtf_view_resolved(const struct vbtf_view *view, uint32_t first, uint32_t *out, size_t room,
+                                        uint64_t *count)
+{
+	uint32_t none;
+	return vbtf_raw_view_resolved(vbtf_view_types_at(view), view->parts.types_len, vbtf_view_places(view),
+	                              view->parts.count, view->parts.order, first, out ? out : &none, out ? room : 0,
+	                              count);
+}
+
+/*
+ * The least id of a type of this kind and name, as vbtf_find gives it; but VBTF_BAD_ARGUMENT also for a name with a zero
+ * byte or a byte 0xEF, which U+FFFD begins with.
+ */
+VBTF_INLINE uint32_t vbtf_view_find(const struct vbtf_view *view, const char *name, size_t len, uint32_t kind,
+                                    uint32_t *id, struct vbtf_error *error)
+{
+	struct vbtf_error unread;
+	return vbtf_raw_view_find(vbtf_view_types_at(view), view->parts.types_len, vbtf_bytes_or_none(view->strings),
+	                          view->parts.strings_len, vbtf_view_places(view), view->parts.count, view->parts.order,
+	                          vbtf_bytes_or_none(name), len, kind, id, vbtf_error_or(error, &unread));
 }
 
 /* ---- build */

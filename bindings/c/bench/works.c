@@ -1,7 +1,7 @@
 /*
  * Times the works of C callers beside libbpf, in turns: works TABLE [ROUNDS]. Each line has the name of the work, the
- * least time of a round in microseconds here and with libbpf, and their quotient. Both sides sum what they read, and
- * the program ends with status 1 if the sums differ.
+ * least time of a round in microseconds of a table, of a view and of libbpf, and the quotients of the first two and
+ * libbpf's. All sides sum what they read, and the program ends with status 1 if the sums differ.
  *
  *   cc -O2 bindings/c/bench/works.c -Ibindings/c -LFOLDER -lvbtf -lbpf -lelf -lz -o works
  */
@@ -17,6 +17,7 @@
 enum { PLACES = 1 << 12, NAMES = 64 };
 
 static struct vbtf_table table;
+static struct vbtf_view view;
 static struct btf *theirs;
 static unsigned char *data;
 static size_t size;
@@ -32,6 +33,17 @@ static uint64_t open_here(void)
 	if (!vbtf_parse(&opened, data, size, VBTF_BY_MAGIC, NULL))
 		vbtf_count(&opened, &types);
 	vbtf_close(&opened);
+	return types;
+}
+
+static uint64_t open_view(void)
+{
+	struct vbtf_view opened = VBTF_VIEW_INIT;
+	uint64_t types = 0;
+
+	if (!vbtf_view_open(&opened, data, size, VBTF_BY_MAGIC, NULL))
+		types = vbtf_view_count(&opened);
+	vbtf_view_close(&opened);
 	return types;
 }
 
@@ -55,6 +67,21 @@ static uint64_t names_here(void)
 		vbtf_types(&table, first, types, PLACES, &places);
 		for (uint64_t at = 0; at < places; at++) {
 			const char *name = vbtf_name_in(&names, types[at].name_offset);
+			sum += name ? strlen(name) : 0;
+		}
+	}
+	return sum;
+}
+
+static uint64_t names_view(void)
+{
+	struct vbtf_type types[PLACES];
+	uint64_t sum = 0, places = 1;
+
+	for (uint32_t first = 1; places; first += places) {
+		vbtf_view_types(&view, first, types, PLACES, &places);
+		for (uint64_t at = 0; at < places; at++) {
+			const char *name = vbtf_view_name(&view, types[at].name_offset);
 			sum += name ? strlen(name) : 0;
 		}
 	}
@@ -95,6 +122,26 @@ static uint64_t members_here(void)
 	return sum;
 }
 
+static uint64_t members_view(void)
+{
+	static struct vbtf_member members[1 << 16];
+	struct vbtf_type types[PLACES];
+	uint64_t sum = 0, places = 1, found;
+
+	for (uint32_t first = 1; places; first += places) {
+		vbtf_view_types(&view, first, types, PLACES, &places);
+		for (uint64_t at = 0; at < places; at++) {
+			if (!has_members(types[at].kind) ||
+			    vbtf_view_members(&view, first + at, members, 1 << 16, &found, NULL))
+				continue;
+			for (uint64_t index = 0; index < found; index++)
+				sum += members[index].name_offset + members[index].type + members[index].bit_offset +
+				       members[index].bit_field_size;
+		}
+	}
+	return sum;
+}
+
 static uint64_t members_there(void)
 {
 	uint64_t sum = 0;
@@ -124,6 +171,19 @@ static uint64_t types_here(void)
 	return sum;
 }
 
+static uint64_t types_view(void)
+{
+	struct vbtf_type types[PLACES];
+	uint64_t sum = 0, places = 1;
+
+	for (uint32_t first = 1; places; first += places) {
+		vbtf_view_types(&view, first, types, PLACES, &places);
+		for (uint64_t at = 0; at < places; at++)
+			sum += types[at].name_offset + types[at].info;
+	}
+	return sum;
+}
+
 static uint64_t types_there(void)
 {
 	uint64_t sum = 0;
@@ -142,6 +202,18 @@ static uint64_t sizes_here(void)
 
 	for (uint32_t first = 1; places; first += places) {
 		vbtf_sizes(&table, first, sizes, PLACES, &places);
+		for (uint64_t at = 0; at < places; at++)
+			sum += sizes[at] == UINT64_MAX ? 0 : sizes[at];
+	}
+	return sum;
+}
+
+static uint64_t sizes_view(void)
+{
+	uint64_t sizes[PLACES], sum = 0, places = 1;
+
+	for (uint32_t first = 1; places; first += places) {
+		vbtf_view_sizes(&view, first, sizes, PLACES, &places);
 		for (uint64_t at = 0; at < places; at++)
 			sum += sizes[at] == UINT64_MAX ? 0 : sizes[at];
 	}
@@ -174,6 +246,19 @@ static uint64_t resolved_here(void)
 	return sum;
 }
 
+static uint64_t resolved_view(void)
+{
+	uint32_t ids[PLACES];
+	uint64_t sum = 0, places = 1;
+
+	for (uint32_t first = 1; places; first += places) {
+		vbtf_view_resolved(&view, first, ids, PLACES, &places);
+		for (uint64_t at = 0; at < places; at++)
+			sum += ids[at] == UINT32_MAX ? 0 : ids[at];
+	}
+	return sum;
+}
+
 static uint64_t resolved_there(void)
 {
 	uint64_t sum = 0;
@@ -200,6 +285,17 @@ static uint64_t find_here(void)
 	return sum;
 }
 
+static uint64_t find_view(void)
+{
+	uint64_t sum = 0;
+	uint32_t id;
+
+	for (int at = 0; at < NAMES; at++)
+		if (!vbtf_view_find(&view, sought[at], strlen(sought[at]), VBTF_KIND_FUNC, &id, NULL))
+			sum += id;
+	return sum;
+}
+
 static uint64_t find_there(void)
 {
 	uint64_t sum = 0;
@@ -211,13 +307,16 @@ static uint64_t find_there(void)
 
 static const struct work {
 	const char *name;
-	uint64_t (*here)(void), (*there)(void);
+	uint64_t (*here)(void), (*of_view)(void), (*there)(void);
 	bool compares;
 } works[] = {
-	{ "open", open_here, open_there, true },        { "names", names_here, names_there, true },
-	{ "members", members_here, members_there, true }, { "types", types_here, types_there, true },
-	{ "sizes", sizes_here, sizes_there, false },    { "resolved", resolved_here, resolved_there, false },
-	{ "find", find_here, find_there, true },
+	{ "open", open_here, open_view, open_there, true },
+	{ "names", names_here, names_view, names_there, true },
+	{ "members", members_here, members_view, members_there, true },
+	{ "types", types_here, types_view, types_there, true },
+	{ "sizes", sizes_here, sizes_view, sizes_there, false },
+	{ "resolved", resolved_here, resolved_view, resolved_there, false },
+	{ "find", find_here, find_view, find_there, true },
 };
 
 static double microseconds(uint64_t (*work)(void), uint64_t *sum)
@@ -260,25 +359,29 @@ int main(int argc, char **argv)
 	int rounds = argc > 2 ? atoi(argv[2]) : 15, differ = 0;
 
 	if (argc < 2 || !read_file(argv[1]) || vbtf_parse(&table, data, size, VBTF_BY_MAGIC, NULL) ||
-	    !(theirs = btf__new(data, size))) {
+	    vbtf_view_open(&view, data, size, VBTF_BY_MAGIC, NULL) || !(theirs = btf__new(data, size))) {
 		fprintf(stderr, "usage: works TABLE [ROUNDS]\n");
 		return 2;
 	}
 	count = btf__type_cnt(theirs);
 	choose_names();
 	for (size_t at = 0; at < sizeof works / sizeof *works; at++) {
-		double here = 1e12, there = 1e12, time;
-		uint64_t ours = 0, others = 0;
+		double here = 1e12, of_view = 1e12, there = 1e12, time;
+		uint64_t ours = 0, viewed = 0, others = 0;
+		bool wrong;
 
 		for (int round = 0; round < rounds; round++) {
 			time = microseconds(works[at].here, &ours);
 			here = time < here ? time : here;
+			time = microseconds(works[at].of_view, &viewed);
+			of_view = time < of_view ? time : of_view;
 			time = microseconds(works[at].there, &others);
 			there = time < there ? time : there;
 		}
-		differ |= works[at].compares && ours != others;
-		printf("%-9s %9.1f %9.1f %6.2f%s\n", works[at].name, here, there, here / there,
-		       works[at].compares && ours != others ? " the sums differ" : "");
+		wrong = ours != viewed || (works[at].compares && ours != others);
+		differ |= wrong;
+		printf("%-9s %9.1f %9.1f %9.1f %6.2f %6.2f%s\n", works[at].name, here, of_view, there, here / there,
+		       of_view / there, wrong ? " the sums differ" : "");
 	}
 	return differ;
 }

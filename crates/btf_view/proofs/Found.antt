@@ -1,0 +1,58 @@
+-- The search for a name in the places of a view.
+use Rattle.std.proofs.Common.{◌≡◌, ◌∙◌, ◌+◌, ◌<◌, ◌≤◌, ℕ, true, false, List, length, get_or, Some, Ok, Err, sym, ap, subst, inl, inr}
+use Rattle.std.specs.Prelude.{slice_get}
+use Rattle.std.proofs.lemmas.Option.{slice_get-get_or}
+use Rattle.btf_model.specs.declared.endianness.Endianness.{Endianness}
+use Rattle.btf_model.specs.Record as model
+use Rattle.btf_model.specs.Record.{Kind, Record, kind_number, kind_of}
+use Rattle.btf_model.specs.Refusal.{InvalidStringOffset}
+use Rattle.btf_model.specs.Text.{text_at, ArePassed, IsPassed}
+use Rattle.btf_plain.specs.Head.{headed}
+use Rattle.btf_plain.specs.declared.head.Head.{Head}
+use Rattle.btf_table.specs.BtfStr.{HasName}
+use Rattle.btf_table.specs.Readable.{IsReadableEnd}
+use Rattle.btf_table.proofs.Names.{passed_one}
+use Rattle.btf_view.specs.Places.{AreIndexed, IsPlace}
+use Rattle.btf_view.specs.Record.{HasHead, IsReadAs}
+use Rattle.btf_view.specs.Finding.{LooksUp}
+use Rattle.btf_view.specs.declared.finding.Lookup.TheVariants.{Found, Unreadable}
+use Rattle.btf_view.proofs.KindNames.{kept_kind, one_number}
+use Rattle.btf_view.proofs.Places.{placed}
+
+-- the record of an id, with the head at its place
+pub record Seen (records : List Record) (id : ℕ) (raw : Head) : Type 0 where
+  pub seen : Record
+  pub there : slice_get records id ≡ Some seen
+  pub read : IsReadAs raw seen
+
+pub seen_at : (order : Endianness) (types places : List ℕ) (records : List Record) (id : ℕ) (raw : Head) → AreIndexed order types places records → id < length places → ((r : Record) → IsPlace order types (get_or places id 0) r → IsReadAs raw r) → Seen records id raw
+seen_at order types places records id raw h lt has =
+    let found = placed order types places records id (get_or places id 0) h.are (slice_get-get_or places id 0 lt) in
+    record { seen = found.0; there = found.1; read = has found.0 found.2 }
+
+-- its kind is that of the head
+kind_seen : (records : List Record) (id : ℕ) (raw : Head) (s : Seen records id raw) → kind_of s.seen.info ≡ kind_of raw.info
+kind_seen records id raw s = ap (λ (r : Record). kind_of r.info) s.read.is ∙ kept_kind s.read.kind (headed raw s.read.tail) s.read.has ∙ sym s.read.has
+
+-- the kind is the one that has this number, or another one
+pub same_kind : (records : List Record) (id number n : ℕ) (raw : Head) (k : Kind) (s : Seen records id raw) → slice_get model.kinds number ≡ Some k → n ≡ kind_number raw.info → n ≡ number → kind_of s.seen.info ≡ Some k
+same_kind records id number n raw k s is n-is same = kind_seen records id raw s ∙ ap (slice_get model.kinds) (sym n-is ∙ same) ∙ is
+
+pub other_kind : (strings : List ℕ) (records : List Record) (id number n : ℕ) (raw : Head) (k : Kind) (name : List ℕ) → Seen records id raw → slice_get model.kinds number ≡ Some k → n ≡ kind_number raw.info → (n ≡ number → ⊥) → ArePassed strings records k name id → (low : ℕ) (r : Record) → low < id + 1 → slice_get records low ≡ Some r → IsPassed strings k name r
+other_kind strings records id number n raw k name s is n-is differ below =
+    passed_one strings records k name id s.seen below s.there
+    (inl (λ has. differ (one_number n number k (ap (slice_get model.kinds) n-is ∙ sym (kind_seen records id raw s) ∙ has) is)))
+
+-- another name
+pub other_name : (strings : List ℕ) (records : List Record) (id : ℕ) (raw head : Head) (k : Kind) (name : List ℕ) (s : Seen records id raw) → HasHead head s.seen → HasName strings head.name name (Ok false) → ArePassed strings records k name id → (low : ℕ) (r : Record) → low < id + 1 → slice_get records low ≡ Some r → IsPassed strings k name r
+other_name strings records id raw head k name s has named below =
+    passed_one strings records k name id s.seen below s.there (inr (subst (λ (o : ℕ). HasName strings o name (Ok false)) has.name named))
+
+-- the name
+pub found_there : (strings : List ℕ) (records : List Record) (id : ℕ) (raw head : Head) (k : Kind) (name : List ℕ) (s : Seen records id raw) → HasHead head s.seen → kind_of s.seen.info ≡ Some k → HasName strings head.name name (Ok true) → ArePassed strings records k name id → LooksUp strings records k name (Found id)
+found_there strings records id raw head k name s has kind named below = (s.seen, (below, s.there, kind), subst (λ (o : ℕ). HasName strings o name (Ok true)) has.name named)
+
+-- a name that can't be read
+pub unread_there : (strings : List ℕ) (records : List Record) (id end : ℕ) (raw head : Head) (k : Kind) (name : List ℕ) (s : Seen records id raw) → HasHead head s.seen → kind_of s.seen.info ≡ Some k → IsReadableEnd strings end → end ≤ head.name → ArePassed strings records k name id → LooksUp strings records k name (Unreadable head.name)
+unread_there strings records id end raw head k name s has kind readable le below =
+    inl (id, s.seen, (below, s.there, kind), subst (λ (o : ℕ). text_at strings o ≡ Err (InvalidStringOffset head.name)) has.name (readable.from head.name le))

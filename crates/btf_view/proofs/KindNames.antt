@@ -1,0 +1,140 @@
+-- A kind of the code has one kind of the definitions.
+use Rattle.std.proofs.Common.{◌≡◌, ◌≢◌, ◌∙◌, ◌+◌, ℕ, zero, suc, List, [], ◌∷◌, Some, None, refl, sym, ap, arith}
+use Rattle.std.specs.Prelude.{map, slice_get}
+use Rattle.std.proofs.lemmas.Option.{same_Some, slice_get_within, slice_get-map}
+use Rattle.std.specs.Option.{option_map}
+use Rattle.btf_model.specs.Record as model
+use Rattle.btf_model.specs.Record.{Kind, Record, kind_number, kind_of}
+use Rattle.btf_model.specs.Spelling.{kept}
+use Rattle.btf_plain.specs.Kind.{kind}
+use Rattle.btf_plain.specs.declared.kind.BtfKind.{BtfKind}
+use Rattle.btf_plain.specs.declared.kind.BtfKind.TheVariants as code
+use Rattle.btf_model.specs.Walk.{extent}
+use Rattle.btf_plain.specs.Head.{headed}
+use Rattle.btf_plain.specs.declared.head.Head.{Head}
+use Rattle.btf_view.specs.Forms.{members}
+use Rattle.btf_view.specs.Record.{HasHead}
+
+abbrev number_of : Kind → ℕ
+number_of model.Unknown = 0
+number_of model.Int = 1
+number_of model.Ptr = 2
+number_of model.Array = 3
+number_of model.Struct = 4
+number_of model.Union = 5
+number_of model.Enum = 6
+number_of model.Fwd = 7
+number_of model.Typedef = 8
+number_of model.Volatile = 9
+number_of model.Const = 10
+number_of model.Restrict = 11
+number_of model.Func = 12
+number_of model.FuncProto = 13
+number_of model.Var = 14
+number_of model.DataSec = 15
+number_of model.Float = 16
+number_of model.DeclTag = 17
+number_of model.TypeTag = 18
+number_of model.Enum64 = 19
+
+-- the kinds have the numbers of their places
+places : ℕ → List Kind → List ℕ
+places i [] = []
+places i (k ∷ ks) = i ∷ places (suc i) ks
+
+place_is : (i : ℕ) (ks : List Kind) (n m : ℕ) → slice_get (places i ks) n ≡ Some m → i + n ≡ m
+unfolding places
+place_is i [] n m is = absurd (omega (arith, slice_get_within [] n m is))
+place_is i (k ∷ ks) zero m is = omega (arith, same_Some i m is)
+place_is i (k ∷ ks) (suc n) m is = omega (arith, place_is (suc i) ks n m is)
+
+numbers : map number_of model.kinds ≡ places 0 model.kinds
+unfolding places
+numbers = refl
+
+-- the place of a kind is its number
+placed_kind : (n : ℕ) (k : Kind) → slice_get model.kinds n ≡ Some k → 0 + n ≡ number_of k
+placed_kind n k is = place_is 0 model.kinds n (number_of k) (ap (λ (xs : List ℕ). slice_get xs n) (sym numbers) ∙ slice_get-map number_of model.kinds n ∙ ap (option_map number_of) is)
+
+-- a kind has one number
+pub one_number : (n m : ℕ) (k : Kind) → slice_get model.kinds n ≡ Some k → slice_get model.kinds m ≡ Some k → n ≡ m
+one_number n m k a b = omega (arith, placed_kind n k a, placed_kind m k b)
+
+-- the kind in an info word
+pub kind_in : (info number : ℕ) (k : BtfKind) → slice_get model.kinds number ≡ Some (kind k) → number ≡ kind_number info → kind_of info ≡ Some (kind k)
+kind_in info number k there is = ap (slice_get model.kinds) (sym is) ∙ there
+
+-- reading retains the kind
+pub kept_kind : (k : Kind) (r : Record) → kind_of r.info ≡ Some k → kind_of (kept k r).info ≡ Some k
+kept_kind model.Unknown r is = refl
+kept_kind model.Int r is = is
+kept_kind model.Ptr r is = is
+kept_kind model.Array r is = is
+kept_kind model.Struct r is = is
+kept_kind model.Union r is = is
+kept_kind model.Enum r is = is
+kept_kind model.Fwd r is = is
+kept_kind model.Typedef r is = is
+kept_kind model.Volatile r is = is
+kept_kind model.Const r is = is
+kept_kind model.Restrict r is = is
+kept_kind model.Func r is = is
+kept_kind model.FuncProto r is = is
+kept_kind model.Var r is = is
+kept_kind model.DataSec r is = is
+kept_kind model.Float r is = is
+kept_kind model.DeclTag r is = is
+kept_kind model.TypeTag r is = is
+kept_kind model.Enum64 r is = is
+
+-- reading does not change what a record gives for its size
+pub kept_extent : (k : Kind) (r : Record) → extent (Some k) (kept k r) ≡ extent (Some k) r
+kept_extent model.Unknown r = refl
+kept_extent model.Int r = refl
+kept_extent model.Ptr r = refl
+kept_extent model.Array r = refl
+kept_extent model.Struct r = refl
+kept_extent model.Union r = refl
+kept_extent model.Enum r = refl
+kept_extent model.Fwd r = refl
+kept_extent model.Typedef r = refl
+kept_extent model.Volatile r = refl
+kept_extent model.Const r = refl
+kept_extent model.Restrict r = refl
+kept_extent model.Func r = refl
+kept_extent model.FuncProto r = refl
+kept_extent model.Var r = refl
+kept_extent model.DataSec r = refl
+kept_extent model.Float r = refl
+kept_extent model.DeclTag r = refl
+kept_extent model.TypeTag r = refl
+kept_extent model.Enum64 r = refl
+
+-- the kinds of which reading retains the whole head
+pub whole_head : (k : Kind) (head : Head) (tail : List ℕ) → k ≢ model.Unknown → k ≢ model.Array → k ≢ model.Fwd → HasHead head (kept k (headed head tail))
+whole_head model.Unknown head tail u a f = absurd (u refl)
+whole_head model.Array head tail u a f = absurd (a refl)
+whole_head model.Fwd head tail u a f = absurd (f refl)
+whole_head model.Int head tail u a f = record { name = refl; info = refl; third = refl }
+whole_head model.Ptr head tail u a f = record { name = refl; info = refl; third = refl }
+whole_head model.Struct head tail u a f = record { name = refl; info = refl; third = refl }
+whole_head model.Union head tail u a f = record { name = refl; info = refl; third = refl }
+whole_head model.Enum head tail u a f = record { name = refl; info = refl; third = refl }
+whole_head model.Typedef head tail u a f = record { name = refl; info = refl; third = refl }
+whole_head model.Volatile head tail u a f = record { name = refl; info = refl; third = refl }
+whole_head model.Const head tail u a f = record { name = refl; info = refl; third = refl }
+whole_head model.Restrict head tail u a f = record { name = refl; info = refl; third = refl }
+whole_head model.Func head tail u a f = record { name = refl; info = refl; third = refl }
+whole_head model.FuncProto head tail u a f = record { name = refl; info = refl; third = refl }
+whole_head model.Var head tail u a f = record { name = refl; info = refl; third = refl }
+whole_head model.DataSec head tail u a f = record { name = refl; info = refl; third = refl }
+whole_head model.Float head tail u a f = record { name = refl; info = refl; third = refl }
+whole_head model.DeclTag head tail u a f = record { name = refl; info = refl; third = refl }
+whole_head model.TypeTag head tail u a f = record { name = refl; info = refl; third = refl }
+whole_head model.Enum64 head tail u a f = record { name = refl; info = refl; third = refl }
+
+-- the kinds without members
+pub no_members : (k : BtfKind) (r : Record) → k ≢ code.Struct → k ≢ code.Union → members (kind k) r ≡ None
+no_members code.Struct r s u = absurd (s refl)
+no_members code.Union r s u = absurd (u refl)
+no_members k r s u = refl

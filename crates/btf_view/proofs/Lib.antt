@@ -1,0 +1,14 @@
+pub mod Front
+pub mod Places
+pub mod Heads
+pub mod Lengths
+pub mod Cuts
+pub mod Indexes
+pub mod Tails
+pub mod Arrays
+pub mod Walking
+pub mod Filled
+pub mod Fills
+pub mod KindNames
+pub mod Listed
+pub mod Found

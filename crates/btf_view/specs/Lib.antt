@@ -1,0 +1,9 @@
+pub mod Places
+pub mod Header
+pub mod Index
+pub mod Record
+pub mod Forms
+pub mod Many
+pub mod Extent
+pub mod View
+pub mod Finding

@@ -1,0 +1,82 @@
+//! Writing many types or members to a buffer.
+
+ghost use Rattle.std.specs.Prelude.{◌≡◌, ◌*◌, ◌<◌, ◌≤◌, ◌^◌, List, map, length, take, drop};
+ghost use Rattle.btf_model.specs.Record.{Record, vlen};
+ghost use Rattle.btf_model.specs.Word.{words_at};
+ghost use Rattle.btf_view.specs.Forms.{Begins, members_in, words_in};
+ghost use Rattle.btf_view.specs.Places.{AreIndexed, ArePlaces};
+
+use crate::forms::{Member, TypeWords, member_of, type_words};
+use crate::record::{head_at, word_at};
+use btf_plain::Endianness;
+
+/// Writes the first words of the types at these places, as many as fit, and returns their number.
+#[inline(always)]
+fn fill_words(types: &[u8], places: &[u32], endianness: Endianness, out: &mut [TypeWords]) -> usize
+    ensures { (rs : List Record) → ArePlaces endianness types.now places.now rs
+        → Begins (take (length out.old) (map words_in rs)) out.old out.new result }
+{
+    let count = out.len().min(places.len());
+    for index in 0..count {
+        out[index] = type_words(&head_at(types, places[index], endianness));
+    }
+    count
+}
+
+/// Writes the first words of the types from an id on, as many as fit, and returns their number.
+#[inline(always)]
+pub(crate) fn fill_types(
+    types: &[u8],
+    places: &[u32],
+    endianness: Endianness,
+    first: u32,
+    out: &mut [TypeWords],
+) -> usize
+    ensures { (records : List Record) → AreIndexed endianness types.now places.now records
+        → Begins (take (length out.old) (drop first (map words_in records)))
+        out.old out.new result }
+{
+    match places.get(first as usize..) {
+        Some(rest) => fill_words(types, rest, endianness, out),
+        None => 0,
+    }
+}
+
+/// The number of items of a record with this info word.
+#[inline(always)]
+fn vlen_of(info: u32) -> usize
+    ensures value { result ≡ vlen info }
+    ensures small { result < 2 ^ 16 }
+{
+    (info & 0xffff) as usize
+}
+
+/// Writes the members of a record with this info word, whose words after the head the bytes begin with, as many as fit,
+/// and returns their number.
+#[inline(always)]
+pub(crate) fn fill_members(
+    info: u32,
+    tail: &[u8],
+    endianness: Endianness,
+    out: &mut [Member],
+) -> usize
+    ensures { 12 * vlen info ≤ length tail.now
+        → Begins (take (length out.old) (members_in info
+        (words_at endianness (3 * vlen info) tail.now))) out.old out.new result }
+{
+    let vlen = vlen_of(info);
+    if tail.len() < 12 * vlen {
+        return 0;
+    }
+    let count = out.len().min(vlen);
+    for index in 0..count {
+        let at = 12 * index;
+        out[index] = member_of(
+            info,
+            word_at(tail, at, endianness),
+            word_at(tail, at + 4, endianness),
+            word_at(tail, at + 8, endianness),
+        );
+    }
+    count
+}

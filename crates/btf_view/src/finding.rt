@@ -1,0 +1,88 @@
+//! The type of a kind and a name.
+
+ghost use Rattle.std.specs.Prelude.{◌≡◌, List, Some, slice_get};
+ghost use Rattle.btf_model.specs.Record as model;
+ghost use Rattle.btf_model.specs.Record.{Record};
+ghost use Rattle.btf_plain.specs.Kind as kinds;
+ghost use Rattle.btf_view.specs.Finding.{LooksUp};
+ghost use Rattle.btf_view.specs.Places.{AreIndexed};
+
+use crate::record::{kept_head, raw_head_at};
+use crate::text::{has_name_at, is_comparable, readable_end};
+use btf_plain::{BtfKind, Endianness};
+
+/// The result of looking up a kind and a name.
+#[derive(Clone, Copy, Debug, PartialEq, Eq)]
+pub enum Lookup {
+    /// The least id of a type of the kind and the name.
+    Found(u32),
+    /// No type has the kind and the name.
+    Missing,
+    /// A type of the kind, below any that has the name, has this string offset, at which no text can be read.
+    Unreadable(u32),
+    /// The name has a zero byte or a byte 0xEF, so that it can't be compared with the bytes of a text.
+    Incomparable,
+}
+
+/// The number of a kind.
+fn number_of(kind: BtfKind) -> u32
+    ensures { slice_get model.kinds result ≡ Some (kinds.kind kind) }
+{
+    match kind {
+        BtfKind::Unknown => 0,
+        BtfKind::Int => 1,
+        BtfKind::Ptr => 2,
+        BtfKind::Array => 3,
+        BtfKind::Struct => 4,
+        BtfKind::Union => 5,
+        BtfKind::Enum => 6,
+        BtfKind::Fwd => 7,
+        BtfKind::Typedef => 8,
+        BtfKind::Volatile => 9,
+        BtfKind::Const => 10,
+        BtfKind::Restrict => 11,
+        BtfKind::Func => 12,
+        BtfKind::FuncProto => 13,
+        BtfKind::Var => 14,
+        BtfKind::DataSec => 15,
+        BtfKind::Float => 16,
+        BtfKind::DeclTag => 17,
+        BtfKind::TypeTag => 18,
+        BtfKind::Enum64 => 19,
+    }
+}
+
+/// The least id of a type of this kind and name. No name of the table is read to its end.
+#[inline(always)]
+pub(crate) fn find_in(
+    types: &[u8],
+    strings: &[u8],
+    places: &[u32],
+    endianness: Endianness,
+    name: &str,
+    kind: BtfKind,
+) -> Lookup
+    ensures { (records : List Record) → AreIndexed endianness types.now places.now records
+        → LooksUp strings.now records (kinds.kind kind) name.now result }
+{
+    if !is_comparable(name) {
+        return Lookup::Incomparable;
+    }
+    let number = number_of(kind);
+    let end = readable_end(strings);
+    let ids = places.len().min(u32::MAX as usize);
+    for id in 0..ids {
+        let raw = raw_head_at(types, places[id], endianness);
+        if raw.kind() != number {
+            continue;
+        }
+        let head = kept_head(raw);
+        if head.name as usize >= end {
+            return Lookup::Unreadable(head.name);
+        }
+        if has_name_at(strings, head.name, name) {
+            return Lookup::Found(id as u32);
+        }
+    }
+    Lookup::Missing
+}

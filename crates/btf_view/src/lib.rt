@@ -1,0 +1,21 @@
+//! A table that is only read: its bytes, and where each record begins.
+#![tactic(auto)]
+
+mod filling;
+mod finding;
+mod forms;
+mod header;
+mod indexing;
+mod length;
+mod record;
+mod sizing;
+mod text;
+mod view;
+mod walk;
+
+pub use finding::Lookup;
+pub use forms::{Member, TypeWords};
+pub use indexing::{Sections, Unindexed, index};
+pub use text::readable_end;
+pub use view::View;
+pub use walk::WALK_LIMIT;

@@ -1,0 +1,101 @@
+//! The words of the record at a place.
+
+ghost use Rattle.std.specs.Prelude.{◌≡◌, ◌+◌, ◌≤◌, ℕ, List, length, drop, Some};
+ghost use Rattle.btf_model.specs.Blob as blob;
+ghost use Rattle.btf_model.specs.Record.{Record, Kind, kind_of};
+ghost use Rattle.btf_model.specs.Spelling.{kept};
+ghost use Rattle.btf_plain.specs.Head.{headed};
+ghost use Rattle.btf_view.specs.Places.{IsPlace};
+ghost use Rattle.btf_view.specs.Record.{HasHead, HasTail, IsReadAs};
+
+use btf_plain::{BtfKind, Endianness, Head};
+
+/// The word at an offset. The call knows that it is within the bytes, so that there is no check for each word.
+#[inline(always)]
+pub(crate) fn word_at(bytes: &[u8], at: usize, endianness: Endianness) -> u32
+    requires { at + 4 ≤ length bytes.now }
+    ensures { result ≡ blob.word_at endianness at bytes.now }
+{
+    // As four bytes in one piece, so that the word is one load.
+    match bytes[at..at + 4].first_chunk::<4>() {
+        Some(word) => endianness.read_u32(*word),
+        None => 0,
+    }
+}
+
+/// No words: the head of the type of id 0.
+const NO_HEAD: Head = Head {
+    name: 0,
+    info: 0,
+    third: 0,
+};
+
+/// A bit for the number of each kind of which reading does not retain the whole head: Unknown, ARRAY and FWD.
+const DROPPING: u32 = 0x89;
+
+/// What reading retains of a head. Most types have a kind of which it retains all, and one test finds that out.
+#[inline(always)]
+pub(crate) fn kept_head(head: Head) -> Head
+    ensures { (k : Kind) (tail : List ℕ) → kind_of head.info ≡ Some k
+        → HasHead result (kept k (headed head tail)) }
+{
+    if DROPPING >> head.kind() & 1 == 0 {
+        return head;
+    }
+    dropped_head(head)
+}
+
+/// The same, kind by kind.
+#[cold]
+#[inline(never)]
+fn dropped_head(head: Head) -> Head
+    ensures { (k : Kind) (tail : List ℕ) → kind_of head.info ≡ Some k
+        → HasHead result (kept k (headed head tail)) }
+{
+    match BtfKind::try_from(head.kind()) {
+        Ok(BtfKind::Unknown) => NO_HEAD,
+        Ok(BtfKind::Fwd | BtfKind::Array) => Head {
+            name: head.name,
+            info: head.info,
+            third: 0,
+        },
+        _ => head,
+    }
+}
+
+/// The first three words at a place, or zeroes if there are none. There is one check for the three.
+#[inline(always)]
+pub(crate) fn raw_head_at(types: &[u8], place: u32, endianness: Endianness) -> Head
+    ensures { (r : Record) → IsPlace endianness types.now place r → IsReadAs result r }
+{
+    let at = place as usize;
+    if types.len() < at + 12 {
+        return NO_HEAD;
+    }
+    Head {
+        name: word_at(types, at, endianness),
+        info: word_at(types, at + 4, endianness),
+        third: word_at(types, at + 8, endianness),
+    }
+}
+
+/// The first three words of the record at a place, or zeroes if there is none.
+#[inline(always)]
+pub(crate) fn head_at(types: &[u8], place: u32, endianness: Endianness) -> Head
+    ensures { (r : Record) → IsPlace endianness types.now place r → HasHead result r }
+{
+    kept_head(raw_head_at(types, place, endianness))
+}
+
+/// The bytes after the first three words of the record at a place; none if the place is past the section.
+#[inline(always)]
+pub(crate) fn tail_at(types: &[u8], place: u32, endianness: Endianness) -> &[u8]
+    ensures { (r : Record) → IsPlace endianness types.now place r
+        → HasTail endianness result.now r }
+{
+    let _ = endianness;
+    match types.get(place as usize + 12..) {
+        Some(tail) => tail,
+        None => &[],
+    }
+}

@@ -1,0 +1,154 @@
+//! The size of a type.
+
+ghost use Rattle.std.specs.Prelude.{◌≡◌, ◌≢◌, ◌*◌, ◌+◌, ◌<◌, ◌≤◌, ◌^◌, List, Some, MatchResult};
+ghost use Rattle.btf_model.specs.Record as kinds;
+ghost use Rattle.btf_model.specs.Record.{Record, kind_of};
+ghost use Rattle.btf_model.specs.Walk as model;
+ghost use Rattle.btf_model.specs.Walk.{HasSize};
+ghost use Rattle.btf_plain.specs.Error.{Meets};
+ghost use Rattle.btf_plain.specs.Kind as kinds_of;
+ghost use Rattle.btf_view.specs.Extent.{extent_of};
+ghost use Rattle.btf_view.specs.Many.{FillsSizes, SizeOrMost};
+ghost use Rattle.btf_view.specs.Places.{AreIndexed, IsPlace};
+
+use crate::record::{raw_head_at, word_at};
+use crate::walk::{WALK_LIMIT, places_from};
+use btf_plain::{BtfError, BtfKind, Endianness};
+
+/// What a type gives for its size.
+#[derive(Clone, Copy)]
+pub(crate) enum Extent {
+    /// The size is this number of bytes.
+    Bytes(u32),
+    /// The size is `count` times the size of another type.
+    Times(u32, u32),
+    /// The type gives no size.
+    Nothing,
+}
+
+/// What the ARRAY at a place gives for its size.
+#[inline(always)]
+fn array_extent(types: &[u8], place: u32, endianness: Endianness) -> Extent
+    ensures { (r : Record) → IsPlace endianness types.now place r
+        → kind_of r.info ≡ Some kinds.Array → extent_of result ≡ model.array_extent r.tail }
+{
+    let at = place as usize + 12;
+    if types.len() < at + 12 {
+        return Extent::Nothing;
+    }
+    let element = word_at(types, at, endianness);
+    Extent::Times(word_at(types, at + 8, endianness), element)
+}
+
+/// What a type of this kind, which is no ARRAY, gives for its size, by its third word.
+#[inline(always)]
+fn plain_extent(kind: BtfKind, third: u32) -> Extent
+    ensures { (r : Record) → third ≡ r.third → kind ≢ BtfKind.Array
+        → extent_of result ≡ model.extent (Some (kinds_of.kind kind)) r }
+{
+    match kind {
+        BtfKind::Int
+        | BtfKind::Struct
+        | BtfKind::Union
+        | BtfKind::Enum
+        | BtfKind::DataSec
+        | BtfKind::Float
+        | BtfKind::Enum64 => Extent::Bytes(third),
+        BtfKind::Ptr => Extent::Bytes(8),
+        BtfKind::Unknown | BtfKind::Fwd | BtfKind::Func => Extent::Nothing,
+        _ => Extent::Times(1, third),
+    }
+}
+
+/// What the type at a place gives for its size. A word that reading drops gives nothing.
+#[inline(always)]
+fn extent_at(types: &[u8], place: u32, endianness: Endianness) -> Extent
+    ensures { (r : Record) → IsPlace endianness types.now place r
+        → extent_of result ≡ model.extent (kind_of r.info) r }
+{
+    let head = raw_head_at(types, place, endianness);
+    let Ok(kind) = BtfKind::try_from(head.kind()) else {
+        return Extent::Nothing;
+    };
+    match kind {
+        BtfKind::Array => array_extent(types, place, endianness),
+        other => plain_extent(other, head.third),
+    }
+}
+
+/// The product, or `InvalidTypeInfo` if it exceeds 32 bits.
+#[inline(always)]
+fn product(a: u32, b: u32) -> Result<u32, BtfError>
+    ensures { MatchResult result
+        (λ n. (n ≡ a * b) × (a * b < 2 ^ 32))
+        (λ e. (2 ^ 32 ≤ a * b) × (e ≡ BtfError.InvalidTypeInfo)) }
+{
+    // By a match: `ok_or` would be a call for each type.
+    match a.checked_mul(b) {
+        Some(product) => Ok(product),
+        None => Err(BtfError::InvalidTypeInfo),
+    }
+}
+
+/// The size of a type in bytes, on the walk over arrays and types that refer to one other type.
+#[inline(always)]
+pub(crate) fn size_of(
+    types: &[u8],
+    places: &[u32],
+    endianness: Endianness,
+    type_id: u32,
+) -> Result<u32, BtfError>
+    ensures { (records : List Record) → AreIndexed endianness types.now places.now records
+        → Meets (λ n. n) result (HasSize records type_id) }
+{
+    let mut id = type_id;
+    let mut count = 1;
+    for _ in 0..WALK_LIMIT {
+        let Some(place) = places.get(id as usize) else {
+            return Err(BtfError::UnknownBtfType { type_id: id });
+        };
+        match extent_at(types, *place, endianness) {
+            Extent::Bytes(bytes) => return product(bytes, count),
+            Extent::Times(times, next) => {
+                count = match product(count, times) {
+                    Ok(count) => count,
+                    Err(error) => return Err(error),
+                };
+                id = next;
+            }
+            Extent::Nothing => return Err(BtfError::UnexpectedBtfType { type_id: id }),
+        }
+    }
+    Err(BtfError::MaximumTypeDepthReached { type_id })
+}
+
+/// The size of a type in bytes, or 2^64 - 1 if it has none.
+#[inline(always)]
+fn size_or_most(types: &[u8], places: &[u32], endianness: Endianness, id: u32) -> u64
+    ensures { (records : List Record) → AreIndexed endianness types.now places.now records
+        → SizeOrMost records id result }
+{
+    let Ok(size) = size_of(types, places, endianness, id) else {
+        return u64::MAX;
+    };
+    size as u64
+}
+
+/// Writes the sizes of the types from an id on, as many as fit, and returns their number.
+#[inline(always)]
+pub(crate) fn fill_sizes(
+    types: &[u8],
+    places: &[u32],
+    endianness: Endianness,
+    first: u32,
+    out: &mut [u64],
+) -> usize
+    ensures { (records : List Record) → AreIndexed endianness types.now places.now records
+        → FillsSizes records first out.old out.new result }
+{
+    let count = places_from(places, first, out.len());
+    for index in 0..count {
+        out[index] = size_or_most(types, places, endianness, first + index as u32);
+    }
+    count
+}

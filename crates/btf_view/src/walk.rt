@@ -1,0 +1,99 @@
+//! Walks from type to type.
+
+ghost use Rattle.std.specs.Prelude.{◌≡◌, ◌+◌, ◌-◌, ◌<◌, ◌≤◌, ◌^◌, List, length, min};
+ghost use Rattle.btf_model.specs.Record.{Record};
+ghost use Rattle.btf_model.specs.Walk.{modified_type, Resolves};
+ghost use Rattle.btf_plain.specs.Error.{Meets};
+ghost use Rattle.btf_view.specs.Many.{FillsResolved, ResolvedOrMost};
+ghost use Rattle.btf_view.specs.Places.{AreIndexed};
+ghost use Rattle.btf_view.specs.Record.{HasHead};
+
+use crate::record::head_at;
+use btf_plain::{BtfError, BtfKind, Endianness, Head};
+
+/// The maximum number of types that a walk visits.
+pub const WALK_LIMIT: usize = 32;
+
+/// The id of the type that a modifier describes; None for a type of another kind.
+#[inline(always)]
+fn modified(head: &Head) -> Option<u32>
+    ensures { (r : Record) → HasHead head.now r → result ≡ modified_type r }
+{
+    match BtfKind::try_from(head.kind()) {
+        Ok(
+            BtfKind::Typedef
+            | BtfKind::Volatile
+            | BtfKind::Const
+            | BtfKind::Restrict
+            | BtfKind::TypeTag,
+        ) => Some(head.third),
+        _ => None,
+    }
+}
+
+/// The id of the first type that is no modifier, on the walk over modifiers from an id on.
+#[inline(always)]
+pub(crate) fn resolve_from(
+    types: &[u8],
+    places: &[u32],
+    endianness: Endianness,
+    type_id: u32,
+) -> Result<u32, BtfError>
+    ensures { (records : List Record) → AreIndexed endianness types.now places.now records
+        → Meets (λ id. id) result (Resolves records type_id) }
+{
+    let mut id = type_id;
+    for _ in 0..WALK_LIMIT {
+        let Some(place) = places.get(id as usize) else {
+            return Err(BtfError::UnknownBtfType { type_id: id });
+        };
+        let head = head_at(types, *place, endianness);
+        let Some(next) = modified(&head) else {
+            return Ok(id);
+        };
+        id = next;
+    }
+    Err(BtfError::MaximumTypeDepthReached { type_id })
+}
+
+/// The id that an id resolves to, or 2^32 - 1 if it resolves to none.
+#[inline(always)]
+fn resolved_or_most(types: &[u8], places: &[u32], endianness: Endianness, id: u32) -> u32
+    ensures { (records : List Record) → AreIndexed endianness types.now places.now records
+        → ResolvedOrMost records id result }
+{
+    let Ok(to) = resolve_from(types, places, endianness, id) else {
+        return u32::MAX;
+    };
+    to
+}
+
+/// The number of types from an id on, as many as fit in this room. Ids have 32 bits.
+#[inline(always)]
+pub(crate) fn places_from(places: &[u32], first: u32, room: usize) -> usize
+    ensures places { length places.now < 2 ^ 32 → result ≡ min room (length places.now - first) }
+    ensures room { result ≤ room }
+    ensures ids { 0 < result → first + result < 2 ^ 32 }
+{
+    let ids = places.len().min(u32::MAX as usize);
+    ids.saturating_sub(first as usize).min(room)
+}
+
+/// Writes what the ids from one on resolve to, as many as fit, and returns their number.
+#[inline(always)]
+pub(crate) fn fill_resolved(
+    types: &[u8],
+    places: &[u32],
+    endianness: Endianness,
+    first: u32,
+    out: &mut [u32],
+) -> usize
+    ensures { (records : List Record) → AreIndexed endianness types.now places.now records
+        → FillsResolved records first out.old out.new result }
+{
+    let count = places_from(places, first, out.len());
+    for index in 0..count {
+        out[index] = resolved_or_most(types, places, endianness, first + index as u32);
+    }
+    count
+}

@@ -1,0 +1,59 @@
+-- The outcomes of the calls that read a blob by the places of its records.
+use Rattle.std.specs.Prelude.{◌≡◌, ◌⊎◌, ◌+◌, ◌*◌, ◌≤◌, ℕ, List, length, take, Result, Ok, Err}
+use Rattle.btf_model.specs.declared.endianness.Endianness.{Endianness}
+use Rattle.btf_model.specs.Refusal.{Refusal}
+use Rattle.btf_model.specs.Table.{Table}
+use Rattle.btf_model.specs.Blob.{IsRefusal, IsTable, header_of, slice}
+use Rattle.btf_table.specs.Readable.{IsReadableEnd}
+use Rattle.btf_view.specs.Forms.{Begins}
+use Rattle.btf_view.specs.Places.{AreIndexed}
+use Rattle.btf_view.specs.declared.forms.Member.{Member}
+use Rattle.btf_view.specs.declared.indexing.Sections.{Sections}
+use Rattle.vbtf.specs.Orders.{order_number}
+use Rattle.vbtf.specs.Status.{ReportsRefusal}
+use Rattle.vbtf.specs.declared.fault.Fault.{Fault}
+use Rattle.vbtf.specs.declared.view.ViewParts.{ViewParts}
+
+-- The parts are those of the sections, with the end of the offsets at which a name can be read.
+pub record IsViewOf (bytes : List ℕ) (order : ℕ) (sections : Sections) (parts : ViewParts) : Type 0 where
+  pub order_is : parts.order ≡ order
+  pub magic : parts.magic ≡ sections.magic
+  pub version : parts.version ≡ sections.version
+  pub flags : parts.flags ≡ sections.flags
+  pub types_at : parts.types_at ≡ sections.types_at
+  pub types_len : parts.types_len ≡ sections.types_len
+  pub strings_at : parts.strings_at ≡ sections.strings_at
+  pub strings_len : parts.strings_len ≡ sections.strings_len
+  pub names : IsReadableEnd (slice sections.strings_at sections.strings_len bytes) parts.names_len
+  pub count : parts.count ≡ sections.count
+
+-- The blob represents a table: its order and its header's values, where both sections are, the end of the offsets at
+-- which a name can be read, and the place of each record in the type section.
+pub record IsView (order : Endianness) (bytes places : List ℕ) (parts : ViewParts) : Type 0 where
+  pub table : Table
+  pub is_table : IsTable order bytes table
+  pub order_is : parts.order ≡ order_number order
+  pub magic : parts.magic ≡ table.magic
+  pub version : parts.version ≡ table.version
+  pub flags : parts.flags ≡ table.flags
+  pub types_fit : parts.types_at + parts.types_len ≤ length bytes
+  pub strings_fit : parts.strings_at + parts.strings_len ≤ length bytes
+  pub strings : slice parts.strings_at parts.strings_len bytes ≡ table.strings
+  pub names : IsReadableEnd table.strings parts.names_len
+  pub count : parts.count ≤ length places
+  pub places_are : AreIndexed order (slice parts.types_at parts.types_len bytes) (take parts.count places) table.records
+
+-- The outcomes of indexing a blob: status 0 and the parts of a view; the first reason to refuse the bytes; or status
+-- 100, and there are fewer places than a type section of this length may need.
+abbrev pub EndsIndexing : ℕ → Endianness → List ℕ → List ℕ → ViewParts → Fault → Type 0
+EndsIndexing status order bytes places parts fault =
+    ((status ≡ 0) × IsView order bytes places parts)
+    ⊎ ((refusal : Refusal) × ReportsRefusal status fault refusal × IsRefusal order bytes refusal)
+    ⊎ ((status ≡ 100) × (12 * length places ≤ (header_of order bytes).type_len))
+
+-- The outcomes of a call that writes members to a buffer: members that meet P, with status 0; or an error that meets P,
+-- and the buffer is unchanged.
+abbrev pub EndsMembers : ℕ → List Member → List Member → ℕ → Fault → (Result (List Member) Refusal → Type 0) → Type 0
+EndsMembers status old new count fault P =
+    ((status ≡ 0) × (items : List Member) × Begins (take (length old) items) old new count × P (Ok items))
+    ⊎ ((new ≡ old) × (refusal : Refusal) × ReportsRefusal status fault refusal × P (Err refusal))
