@@ -19,7 +19,7 @@ ghost use Rattle.vbtf.specs.Status.{EndsCall, ReportsRefusal};
 ghost use Rattle.vbtf.specs.View.{EndsIndexing, EndsMembers, IsViewOf};
 
 use crate::fault::{Fault, INVALID_ARGUMENT, NAME_ROOM, NO_ROOM, report, write};
-use crate::orders::{chosen_order, named_order, number_of};
+use crate::orders::{choose_order, number_of, order_of};
 use btf_plain::{BtfError, BtfKind};
 use btf_view::{Lookup, Member, Sections, TypeWords, Unindexed, View, index, readable_end};
 
@@ -67,7 +67,7 @@ pub extern "C" fn vbtf_raw_view_index(
         «data».now places.new parts.new fault.new }
     ensures order { 2 < order → (result ≡ INVALID_ARGUMENT) × (parts.new ≡ parts.old) }
 {
-    let Some(endianness) = chosen_order(order, data) else {
+    let Some(endianness) = choose_order(order, data) else {
         return INVALID_ARGUMENT;
     };
     match index(data, endianness, places) {
@@ -119,7 +119,7 @@ pub extern "C" fn vbtf_raw_view_types(
         out.old out.new count.new) }
     ensures order { 1 < order → (result ≡ INVALID_ARGUMENT) × (out.new ≡ out.old) }
 {
-    let Some(endianness) = named_order(order) else {
+    let Some(endianness) = order_of(order) else {
         return INVALID_ARGUMENT;
     };
     let view = View {
@@ -151,7 +151,7 @@ pub extern "C" fn vbtf_raw_view_sizes(
         → FillsSizes records first out.old out.new count.new) }
     ensures order { 1 < order → (result ≡ INVALID_ARGUMENT) × (out.new ≡ out.old) }
 {
-    let Some(endianness) = named_order(order) else {
+    let Some(endianness) = order_of(order) else {
         return INVALID_ARGUMENT;
     };
     let view = View {
@@ -183,7 +183,7 @@ pub extern "C" fn vbtf_raw_view_resolved(
         → FillsResolved records first out.old out.new count.new) }
     ensures order { 1 < order → (result ≡ INVALID_ARGUMENT) × (out.new ≡ out.old) }
 {
-    let Some(endianness) = named_order(order) else {
+    let Some(endianness) = order_of(order) else {
         return INVALID_ARGUMENT;
     };
     let view = View {
@@ -213,7 +213,7 @@ pub extern "C" fn vbtf_raw_view_size(
         → EndsCall result size.new fault.new (HasSize records id) }
     ensures order { 1 < order → result ≡ INVALID_ARGUMENT }
 {
-    let Some(endianness) = named_order(order) else {
+    let Some(endianness) = order_of(order) else {
         return INVALID_ARGUMENT;
     };
     let view = View {
@@ -248,7 +248,7 @@ pub extern "C" fn vbtf_raw_view_resolve(
         → EndsCall result to.new fault.new (Resolves records id) }
     ensures order { 1 < order → result ≡ INVALID_ARGUMENT }
 {
-    let Some(endianness) = named_order(order) else {
+    let Some(endianness) = order_of(order) else {
         return INVALID_ARGUMENT;
     };
     let view = View {
@@ -286,7 +286,7 @@ pub extern "C" fn vbtf_raw_view_members(
         → EndsMembers result out.old out.new count.new fault.new (MembersOf records id) }
     ensures order { 1 < order → (result ≡ INVALID_ARGUMENT) × (out.new ≡ out.old) }
 {
-    let Some(endianness) = named_order(order) else {
+    let Some(endianness) = order_of(order) else {
         return INVALID_ARGUMENT;
     };
     let view = View {
@@ -329,7 +329,7 @@ pub extern "C" fn vbtf_raw_view_find(
     ensures no_kind { slice_get kinds kind ≡ None → result ≡ INVALID_ARGUMENT }
     ensures order { 1 < order → result ≡ INVALID_ARGUMENT }
 {
-    let Some(endianness) = named_order(order) else {
+    let Some(endianness) = order_of(order) else {
         return INVALID_ARGUMENT;
     };
     let view = View {
