@@ -21,7 +21,7 @@ use Rattle.std.specs.List.{list_all}
 -- ---- names
 
 -- the sizes and the offsets of an object
-abbrev pub layout_in : {H : Type 0} → ObjectLayout H → Layout
+abbrev pub layout_in : {A H : Type 0} → ObjectLayout A H → Layout
 layout_in layout = layout_of layout.sections layout.symbols
 
 -- the offset of the symbol of a name, if the name can be read, and if the offset is known and has 32 bits

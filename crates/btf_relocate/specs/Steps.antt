@@ -23,9 +23,6 @@ use Rattle.btf_relocate.specs.declared.types.steps.Step.{Step}
 use Rattle.btf_relocate.specs.declared.types.steps.Step.TheVariants as code
 use Rattle.btf_relocate.specs.declared.types.walk.Next.{Next}
 use Rattle.btf_relocate.specs.declared.types.walk.Next.TheVariants as next
-use Rattle.btf_relocate_model.specs.declared.comparison.Pair as pairs
-use Rattle.btf_relocate.specs.Comparing.{IsUnderWay, RunsOn}
-use Rattle.btf_relocate.specs.declared.types.Progress.{Progress}
 
 -- a rule for two kinds, at the kinds of two records
 abbrev pub by_kinds : {X : Type 0} → (Option Kind → Option Kind → Record → Record → X) → Record → Record → X
@@ -151,13 +148,6 @@ abbrev pub GivesNames : Result (List (List ℕ)) RelocationError → Result (BTr
 GivesNames expected result =
     MatchResult result (λ set. (names : List (List ℕ)) × (expected ≡ Ok names) × HasNames set names)
     (λ e. (e ≡ OutOfMemory) ⊎ (expected ≡ Err e))
-
--- Whenever a comparison is under way with these open pairs, the result and the progress are those of its next step.
-abbrev pub AdvancesIn : Frame → Option Bool → Comparison → Progress → Progress → Result (Option Bool)
-    RelocationError → Type 0
-AdvancesIn frame answer c old new result =
-    (root : pairs.Pair) → IsUnderWay c root old.pairs (frame ∷ reverse old.frames.items) answer
-    → RunsOn c root new result
 
 -- Under any comparisons and tables, what comes next is what the walk of parameters gives that is resumed in this
 -- frame.

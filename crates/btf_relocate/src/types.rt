@@ -2,9 +2,9 @@
 
 ghost use Rattle.std.specs.Prelude.{◌+◌, ◌<◌, OnOk};
 ghost use Rattle.btf_relocate_model.specs.Comparison as model;
-ghost use Rattle.btf_relocate.specs.Comparing.{IsAsked, steps_left, work};
+ghost use Rattle.btf_relocate.specs.Comparing.{IsAsked, steps_left, work, AdvancesIn};
 ghost use Rattle.btf_relocate.specs.Gives.{Gives};
-ghost use Rattle.btf_relocate.specs.Steps.{comparison, AdvancesIn};
+ghost use Rattle.btf_relocate.specs.Steps.{comparison};
 
 mod names;
 mod steps;

@@ -1,6 +1,6 @@
 -- Finding a type by its name in the index of a table.
 -- Source: libbpf's `btf__find_by_name_kind`, which compares the bytes of names and begins at id 1.
-use Rattle.std.specs.Prelude.{◌≡◌, ℕ, ◌<◌, List, Option, Some, None, Result, Ok, Err, slice_get, [], is_some, true, ◌≢◌}
+use Rattle.std.specs.Prelude.{◌≡◌, ◌⊎◌, ℕ, ◌<◌, List, Option, Some, None, Result, Ok, Err, slice_get, [], is_some, true, ◌≢◌}
 use Rattle.btf_model.specs.Record.{Kind, Record, kind_of, kinds}
 use Rattle.btf_model.specs.Refusal.{Refusal, UnknownBtfTypeName}
 use Rattle.btf_model.specs.Table.{Table}

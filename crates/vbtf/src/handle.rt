@@ -6,7 +6,7 @@ ghost use base.Fml.{Share};
 ghost use Rattle.vbtf.specs.declared.opened.Opened.{Opened};
 ghost use Rattle.vbtf.specs.Changed.{ChangedTo};
 ghost use Rattle.vbtf.specs.Held.{held, coded_opened, coded_share};
-ghost use Rattle.vbtf.specs.Lent.{AreNamesFrom, TakesLoan};
+ghost use Rattle.vbtf.specs.Lent.{AreNamesFrom};
 
 use crate::lent_name::Name;
 use crate::loan::Loan;
@@ -130,7 +130,9 @@ unsafe impl Send for Handle {}
 
 /// Takes the share of a loan out of a handle, and closes the handle. None if it is not in state 2.
 pub(crate) fn take_loan(table: &mut Handle) -> Option<Loan<Opened>>
-    ensures { TakesLoan table.old table.new result }
+    ensures { MatchOption result ((table.old.state ≢ 2) × (table.new ≡ table.old))
+        (λ loan. (table.old.state ≡ 2) × (loan.at ≡ table.old.at) × (loan.value ≡ table.old.opened)
+        × (loan.life ≡ table.old.life) × (loan.share ≡ table.old.share)) }
 {
     if table.read_state() != LENT {
         return None;

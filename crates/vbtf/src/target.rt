@@ -161,7 +161,7 @@ fn relocate_one(
         return CLOSED;
     };
     let target = Target::with_index(&opened.btf, index);
-    match resolve(alloc, local, &target, relocation) {
+    match resolve_record(alloc, local, &target, relocation) {
         Ok(resolved) => {
             *relocated = Relocated::of(resolved);
             0
@@ -171,7 +171,7 @@ fn relocate_one(
 }
 
 /// What a record asks to be written.
-fn resolve(
+fn resolve_record(
     alloc: Global,
     local: &Btf,
     target: &Target<'_>,
