@@ -1401,8 +1401,8 @@ VBTF_INLINE uint32_t vbtf_view_resolved(const struct vbtf_view *view, uint32_t f
 }
 
 /*
- * The least id of a type of this kind and name, as vbtf_find gives it; but VBTF_BAD_ARGUMENT also for a name with a zero
- * byte or a byte 0xEF, which U+FFFD begins with.
+ * The least id of a type of this kind and name, as vbtf_find gives it; but VBTF_BAD_ARGUMENT also for a name with a
+ * zero byte or a byte 0xEF, with which U+FFFD begins.
  */
 VBTF_INLINE uint32_t vbtf_view_find(const struct vbtf_view *view, const char *name, size_t len, uint32_t kind,
                                     uint32_t *id, struct vbtf_error *error)

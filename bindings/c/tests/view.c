@@ -1,6 +1,6 @@
 /*
- * A view has the values of an open table of the same blob: view FILE, where FILE has the bytes of a table. A blob is cut
- * at each length, places are spoiled, and six threads read one view.
+ * A view has the values of an open table of the same blob: view FILE, where FILE has the bytes of a table. A blob is
+ * cut at each length, places are spoiled, and six threads read one view. WITH_LIBBPF also compares with libbpf.
  */
 #include "file.h"
 
