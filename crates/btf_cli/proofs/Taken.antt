@@ -10,8 +10,8 @@ use Rattle.std.proofs.lemmas.List.{append-nil, append_assoc, length-append}
 use Rattle.std.proofs.lemmas.Str.{utf8_lossy_step, utf8_lossy_chunk, utf8_lossy_last_chunk}
 use Rattle.bstr.proofs.lemmas.LossyLemmas.{lossy_chars-utf8_lossy}
 use Rattle.btf_model.specs.Text.{lossy}
-use Rattle.btf_cli.specs.Buffered.{buffered_contents, Takes}
-use Rattle.btf_cli.specs.declared.buffered.Buffered.{Buffered}
+use Rattle.text_buffer.specs.Buffer.{given_text, Takes}
+use Rattle.text_buffer.specs.declared.buffer.TextBuffer.{TextBuffer}
 
 -- ---- the bytes that a buffer receives
 
@@ -34,27 +34,27 @@ room_next old new all done next more room is parts =
     omega (arith, room, ap length is, length-append old done, ap length parts, length-append done (next ++ more), length-append next more)
 
 module _ {W : Type 0} (contents : W → Option (List ℕ)) where
-  pub takes_none : (b : Buffered W) → Takes contents b [] b
-  takes_none b = (refl, Appends-nil (buffered_contents contents b))
+  pub takes_none : (b : TextBuffer W) → Takes contents b [] b
+  takes_none b = (refl, Appends-nil (given_text contents b))
 
-  pub takes_both : (a b d : Buffered W) (xs ys : List ℕ) → Takes contents a xs b → Takes contents b ys d → Takes contents a (xs ++ ys) d
+  pub takes_both : (a b d : TextBuffer W) (xs ys : List ℕ) → Takes contents a xs b → Takes contents b ys d → Takes contents a (xs ++ ys) d
   takes_both a b d xs ys first second = (
     second.0 ∙ first.0,
-    Appends-trans (buffered_contents contents a) (buffered_contents contents b) (buffered_contents contents d) xs ys first.1 second.1,
+    Appends-trans (given_text contents a) (given_text contents b) (given_text contents d) xs ys first.1 second.1,
   )
 
   -- texts that are written together
-  pub takes_text : (a b : Buffered W) (bs : List ℕ) → WritesInCalls (Takes contents) a bs b → Takes contents a bs b
-  takes_text a b bs calls = Appends-of_writes (λ (s : Buffered W). s.out.ghost_name) (buffered_contents contents) a bs b calls
+  pub takes_text : (a b : TextBuffer W) (bs : List ℕ) → WritesInCalls (Takes contents) a bs b → Takes contents a bs b
+  takes_text a b bs calls = Appends-of_writes (λ (s : TextBuffer W). s.out.ghost_name) (given_text contents) a bs b calls
 
   -- if a buffer was empty and is empty again, the writer has the bytes that it received
-  pub flushed : (w : W) (a b d : Buffered W) (bs : List ℕ) → a.out.now ≡ w → a.pending.bytes ≡ [] → Takes contents a bs b → Keeps (buffered_contents contents b) (buffered_contents contents d) → d.pending.bytes ≡ []
+  pub flushed : (w : W) (a b d : TextBuffer W) (bs : List ℕ) → a.out.now ≡ w → a.pending.bytes ≡ [] → Takes contents a bs b → Keeps (given_text contents b) (given_text contents d) → d.pending.bytes ≡ []
       → Appends (contents w) (contents d.out.now) bs
   flushed w a b d bs is empty taken kept again =
       subst₂ (λ (old new : Option (List ℕ)). Appends old new bs)
       (ap (append_known (contents a.out.now)) empty ∙ known_nil (contents a.out.now) ∙ ap contents is)
       (ap (append_known (contents d.out.now)) again ∙ known_nil (contents d.out.now))
-      (Appends-kept (buffered_contents contents a) (buffered_contents contents b) (buffered_contents contents d) bs taken.1 kept)
+      (Appends-kept (given_text contents a) (given_text contents b) (given_text contents d) bs taken.1 kept)
 
 -- ---- the text of bytes
 

@@ -4,7 +4,6 @@ pub mod Settings
 pub mod Request
 pub mod Line
 pub mod Listing
-pub mod Buffered
 pub mod Output
 pub mod Answer
 pub mod Fault

@@ -9,7 +9,12 @@ use btf_table::Btf;
 use std::alloc::Global;
 
 /// Whether the types of two ids are compatible, and the number of pairs that the comparison started.
-pub fn compared(alloc: Global, table: &Btf, id: u32, other: u32) -> Result<(bool, usize), BtfError>
+pub fn compare_ids(
+    alloc: Global,
+    table: &Btf,
+    id: u32,
+    other: u32,
+) -> Result<(bool, usize), BtfError>
     ensures { MeetsOrNoMemory (λ found. found) result (Compares table.now id other) }
 {
     let mut starts = Vec::new(alloc);

@@ -1,7 +1,6 @@
 //! The command lines of `btftool`: their meaning and their output, over any reader and writers.
 #![tactic(auto)]
 
-mod buffered;
 mod comparison;
 mod fault;
 mod line;

@@ -5,20 +5,20 @@ ghost use Rattle.std.specs.Io.KnownBytes.{Appends};
 ghost use Rattle.btf_model.specs.Text.{lossy, text_at};
 ghost use Rattle.btf_plain.specs.Error.{IsOrNoMemory};
 ghost use Rattle.btf_records.specs.BtfType.{record_of};
-ghost use Rattle.btf_cli.specs.Buffered.{Takes, HasBufferRoom};
+ghost use Rattle.text_buffer.specs.Buffer.{Takes, HasBufferRoom};
 ghost use Rattle.btf_cli.specs.Listing.{name_part, type_line, lines_from};
 ghost use Rattle.btf_cli.specs.Listing as spec;
 
-use crate::buffered::Buffered;
 use btf_plain::BtfError;
 use btf_records::BtfType;
 use btf_table::{Btf, name_bytes};
 use std::alloc::Global;
 use std::fmt::Write;
 use std::{fmt, io};
+use text_buffer::TextBuffer;
 
 /// Writes the text of bytes: U+FFFD replaces each longest piece that is not UTF-8.
-fn write_lossy<W: io::Write>(lines: &mut Buffered<'_, W>, bytes: &[u8]) -> fmt::Result
+fn write_lossy<W: io::Write>(lines: &mut TextBuffer<'_, W>, bytes: &[u8]) -> fmt::Result
     ensures taken { OnOk result (Takes W.contents lines.old (lossy bytes.now) lines.new) }
     ensures room { HasBufferRoom lines.old (lossy bytes.now) → IsOk result }
 {
@@ -34,7 +34,7 @@ fn write_lossy<W: io::Write>(lines: &mut Buffered<'_, W>, bytes: &[u8]) -> fmt::
 /// Writes a space and the name of a type, if the name can be read and is not empty. The name is not copied, however
 /// long its text is.
 fn write_name<W: io::Write>(
-    lines: &mut Buffered<'_, W>,
+    lines: &mut TextBuffer<'_, W>,
     table: &Btf,
     btf_type: &BtfType,
 ) -> fmt::Result
@@ -54,7 +54,7 @@ fn write_name<W: io::Write>(
 
 /// Writes the line of a type: its id, its kind, and its name if it can be read and is not empty.
 fn write_line<W: io::Write>(
-    lines: &mut Buffered<'_, W>,
+    lines: &mut TextBuffer<'_, W>,
     table: &Btf,
     id: usize,
     btf_type: &BtfType,
@@ -70,7 +70,7 @@ fn write_line<W: io::Write>(
 
 /// Writes a line for each of these types; the first has id 1.
 fn write_lines<W: io::Write>(
-    lines: &mut Buffered<'_, W>,
+    lines: &mut TextBuffer<'_, W>,
     table: &Btf,
     types: &[BtfType],
 ) -> fmt::Result
@@ -88,7 +88,7 @@ pub fn write_listing<W: io::Write>(table: &Btf, out: &mut W) -> fmt::Result
     ensures { OnOk result (Appends (W.contents out.old) (W.contents out.new)
         (spec.listing table.now)) }
 {
-    let mut lines = Buffered::new(out);
+    let mut lines = TextBuffer::new(out);
     if let Some((_, types)) = table.types().as_slice().split_first() {
         write_lines(&mut lines, table, types)?;
     }

@@ -12,12 +12,12 @@ ghost use Rattle.btf_cli.specs.Line.{Asks, IsCommandLine};
 ghost use Rattle.btf_cli.specs.Answer.{Writes, Declines, IsAnswer, IsDeclined, IsWritten};
 ghost use Rattle.btf_cli.specs.Output.{output_bytes};
 
-use crate::comparison::compared;
+use crate::comparison::compare_ids;
 use crate::fault::Fault;
 use crate::line::{Command, Line, Query};
 use crate::listing::{comparison_lines, size_line};
 use crate::output::Output;
-use crate::rewrite::rewritten;
+use crate::rewrite::rewrite_blob;
 use btf_plain::BtfError;
 use btf_table::Btf;
 use std::alloc::Global;
@@ -40,7 +40,7 @@ fn read_input<R: Read>(alloc: Global, input: &mut R) -> Result<Vec<u8>, Fault>
 }
 
 /// The output of a query of a table.
-fn asked(alloc: Global, query: Query, table: Btf) -> Result<Output, BtfError>
+fn answer_query(alloc: Global, query: Query, table: Btf) -> Result<Output, BtfError>
     ensures made { IfOk result (λ output. Writes (Ask query) table (output_bytes output)) }
     ensures reported { IfErr result (λ e. IfSome (refusal_of e) (Declines (Ask query) table)) }
 {
@@ -52,7 +52,7 @@ fn asked(alloc: Global, query: Query, table: Btf) -> Result<Output, BtfError>
             Ok(Output::Bytes(size_line(alloc, size)?))
         }
         Query::Compat(id, other) => {
-            let (answer, starts) = compared(alloc, &table, id, other)?;
+            let (answer, starts) = compare_ids(alloc, &table, id, other)?;
             Ok(Output::Bytes(comparison_lines(alloc, answer, starts)?))
         }
     }
@@ -69,10 +69,10 @@ fn answer(alloc: Global, line: Line, blob: &[u8]) -> Result<Output, BtfError>
     match line.command {
         Command::Ask(query) => {
             let table = Btf::parse(alloc, blob, line.endianness)?;
-            asked(alloc, query, table)
+            answer_query(alloc, query, table)
         }
         Command::Rewrite(request) => {
-            let bytes = rewritten(alloc, line.endianness, request, blob)?;
+            let bytes = rewrite_blob(alloc, line.endianness, request, blob)?;
             Ok(Output::Bytes(bytes))
         }
     }

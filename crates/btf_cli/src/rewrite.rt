@@ -71,7 +71,7 @@ fn symbols(alloc: Global, words: &[String]) -> Result<HashMap<String, u64>, Allo
 }
 
 /// The bytes of the table that a blob represents, rewritten for a request.
-pub fn rewritten(
+pub fn rewrite_blob(
     alloc: Global,
     endianness: Endianness,
     request: Request,

@@ -24,15 +24,11 @@ use Rattle.btf_plain.specs.Error.{MeetsOrNoMemory, Meets, refusal_of}
 use Rattle.btf_plain.specs.declared.error.BtfError.{BtfError}
 use Rattle.btf_plain.specs.declared.error.BtfError.TheVariants as errors
 use Rattle.btf_compare.specs.declared.frame.Frame.{Frame}
-use Rattle.btf_compare.specs.Compared.{frame_of, IsStarted, CannotStart, TracesBy}
+use Rattle.btf_compare.specs.Compared.{frame_of, IsStarted, CannotStart, TracesBy, Compares}
 use Rattle.btf_compare.specs.Pairs.{pair_of, ids_of}
 use Rattle.btf_plain.proofs.Refused.{known_refusal}
 
 -- ---- what the call returns
-
--- the call returns the result of the recursion without a record, and lists the pairs that the recursion starts
-abbrev pub Compares : Table → Table → Pair → Result Bool BtfError → (List (ℕ × ℕ) → Type 0) → Type 0
-Compares local target root result IsReported = (answer : Result Bool Refusal) × (listed : List Pair) × Plain local target [] root answer listed × TracesBy IsReported result answer (firsts listed)
 
 -- after these pairs one more was reported
 abbrev pub ReportsOneMore : (List (ℕ × ℕ) → Type 0) → (List (ℕ × ℕ) → Type 0) → ℕ × ℕ → Type 0

@@ -15,9 +15,9 @@ use Rattle.btf_compare.specs.declared.frame.Frame.{Frame}
 use Rattle.btf_compare.specs.declared.entries.Progress.TheVariants.{Open, Compatible}
 use Rattle.btf_compare.specs.declared.pair_map.PairMap.{PairMap}
 use Rattle.btf_compare.specs.PairMap.{known_progress, count, Learns}
-use Rattle.btf_compare.specs.Compared.{WalksTo, ComesTo, IsStarted, frame_of, is_progress_open, is_progress_compatible, opened_in, compatible_in, passed_in}
+use Rattle.btf_compare.specs.Compared.{WalksTo, ComesTo, IsStarted, frame_of, is_progress_open, is_progress_compatible, opened_in, compatible_in, passed_in, Compares}
 use Rattle.btf_compare.specs.Pairs.{pair_of}
-use Rattle.btf_compare.proofs.Comparing.{PairSet, Changes, IsRunning, Compares, ReportsOneMore, stack_of, stack_push, no_memory, ends_refused, ends_false, starts, settles, still_in, less_by_start}
+use Rattle.btf_compare.proofs.Comparing.{PairSet, Changes, IsRunning, ReportsOneMore, stack_of, stack_push, no_memory, ends_refused, ends_false, starts, settles, still_in, less_by_start}
 use Rattle.btf_compare.proofs.Passed.{ArePassed, still_passed}
 use Rattle.btf_compare.proofs.Progresses.{learned, learned_nothing}
 use Rattle.btf_compare.proofs.Walking.{Running, PassedIn, left, shorter, lower, walked, walked_less}

@@ -10,9 +10,9 @@ use Rattle.btf_model.specs.Run.{new_frame, IsNext}
 use Rattle.btf_plain.specs.declared.error.BtfError.{BtfError}
 use Rattle.btf_plain.specs.declared.error.BtfError.TheVariants as errors
 use Rattle.btf_compare.specs.declared.frame.Frame.{Frame}
-use Rattle.btf_compare.specs.Compared.{WalksTo, ComesTo, IsStarted, frame_of, passed_in}
+use Rattle.btf_compare.specs.Compared.{WalksTo, ComesTo, IsStarted, frame_of, passed_in, Compares}
 use Rattle.btf_compare.specs.Pairs.{pair_of}
-use Rattle.btf_compare.proofs.Comparing.{PairSet, IsRunning, Compares, root_started, no_memory, ends_refused, ends_false, ends_true}
+use Rattle.btf_compare.proofs.Comparing.{PairSet, IsRunning, root_started, no_memory, ends_refused, ends_false, ends_true}
 use Rattle.btf_compare.proofs.Passed.{none_passed, nothing_in}
 use Rattle.btf_compare.proofs.Walking.{walked}
 

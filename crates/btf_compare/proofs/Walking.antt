@@ -15,9 +15,9 @@ use Rattle.btf_compare.specs.declared.position.ProtoPair.{ProtoPair}
 use Rattle.btf_compare.specs.declared.entries.Progress.TheVariants.{Open, Compatible}
 use Rattle.btf_compare.specs.declared.pair_map.PairMap.{PairMap}
 use Rattle.btf_compare.specs.PairMap.{known_progress, count, Learns}
-use Rattle.btf_compare.specs.Compared.{WalksTo, ComesTo, NextParameterIs, AreAt, GainsOnly, IsStarted, frame_of, pending_of, is_progress_open, is_progress_compatible, opened_in, compatible_in, passed_in}
+use Rattle.btf_compare.specs.Compared.{WalksTo, ComesTo, NextParameterIs, AreAt, GainsOnly, IsStarted, frame_of, pending_of, is_progress_open, is_progress_compatible, opened_in, compatible_in, passed_in, Compares}
 use Rattle.btf_compare.specs.Pairs.{pair_of, ids_of}
-use Rattle.btf_compare.proofs.Comparing.{PairSet, IsRunning, Compares, stack_of, stack_push, root_started, ends_refused, goes_on, starts, settles, still_in}
+use Rattle.btf_compare.proofs.Comparing.{PairSet, IsRunning, stack_of, stack_push, root_started, ends_refused, goes_on, starts, settles, still_in}
 use Rattle.btf_compare.proofs.Passed.{ArePassed, none_passed, nothing_in, still_passed, more_passed, skips, skips_less}
 use Rattle.btf_compare.proofs.Progresses.{learned, learned_nothing}
 use Rattle.btf_compare.proofs.Steps.{GoesTo, goes_past}

@@ -5,13 +5,13 @@
 -- known to be compatible, so that a walk that meets them again continues with their return types.
 use Rattle.std.specs.BTreeSet as ordered
 use Rattle.std.specs.BTreeSet.{BTreeSet}
-use Rattle.std.specs.Prelude.{◌≡◌, ◌≢◌, ◌⊎◌, ◌<◌, ◌≤◌, ℕ, suc, ◌+◌, ◌-◌, ◌*◌, ◌^◌, length, All, Bool, true, false, cond, ltb, List, [], ◌++◌, map, slice_get, Option, Some, None, Result, Ok, Err}
+use Rattle.std.specs.Prelude.{◌≡◌, ◌≢◌, ◌⊎◌, ◌<◌, ◌≤◌, ℕ, suc, ◌+◌, ◌-◌, ◌*◌, ◌^◌, length, All, Bool, true, false, cond, ltb, List, [], ◌++◌, map, slice_get, Option, Some, None, Result, Ok, Err, ◌∷◌}
 use Rattle.std.specs.List.{IsDistinct}
 use Rattle.btf_model.specs.Record.{Record, Kind, compared_kind}
 use Rattle.btf_model.specs.Refusal.{Refusal}
 use Rattle.btf_model.specs.Table.{Table}
 use Rattle.btf_model.specs.Walk.{walk_limit}
-use Rattle.btf_model.specs.Fields.{Pair}
+use Rattle.btf_model.specs.Fields.{Pair, IsAt}
 use Rattle.btf_model.specs.Compat.{Decided, On, Pending, Plain, firsts, pairs, Finds, ResolvesPair, AreKnown, pair_eq}
 use Rattle.btf_model.specs.Compat as model
 use Rattle.btf_model.specs.Laws.{AreIdsOfPair}
@@ -34,6 +34,8 @@ use Rattle.btf_compare.specs.declared.frame.Frame.{Frame}
 use Rattle.btf_compare.specs.declared.frame.Place.{Place}
 use Rattle.btf_compare.specs.declared.frame.Place.TheVariants as places
 use Rattle.btf_compare.specs.Pairs.{pair_of, ids_of}
+use Rattle.btf_records.specs.declared.btf_type.BtfType.{BtfType}
+use Rattle.btf_records.specs.BtfType.{record_of, type_kind}
 
 -- the types of parameters
 abbrev pub types_of : List BtfParam → List ℕ
@@ -231,3 +233,40 @@ pub record AreStarts (local target : Table) (ps : List Pair) : Type 0 where
 -- the list gains such pairs, at its end
 abbrev pub GainsStarts : Table → Table → List (ℕ × ℕ) → List (ℕ × ℕ) → Type 0
 GainsStarts local target old new = (ps : List Pair) × AreStarts local target ps × (new ≡ old ++ map ids_of ps)
+
+-- Whenever the two types are those of the frame's ids, the result is the first step of the frame, and of all steps
+-- that follow it without a new frame.
+abbrev pub StepsFirst : Frame → Frame → BtfType → BtfType → (Pair → Bool) → Option (Result Place BtfError) → Type 0
+StepsFirst old_self new_self local_type target_type passed result =
+    (local target : Table) → IsAt local old_self.at.0 (type_kind local_type) (record_of local_type)
+    → IsAt target old_self.at.1 (type_kind target_type) (record_of target_type)
+    → AfterSteps local target passed old_self new_self result
+
+-- Whenever the position is that of the frame's pair, the result is the step of the frame there.
+abbrev pub StepsFrom : Frame → Frame → Position → (Pair → Bool) → Option (Result Place BtfError) → Type 0
+StepsFrom old_self new_self position passed result =
+    (local target : Table) → IsFound local target position old_self
+    → AfterStep local target passed old_self new_self result
+
+-- no pair is added to the starts; `has` says which pairs are added between two states
+abbrev pub KeepsStarts : {S : Type 0} → (S → S → List (ℕ × ℕ) → Type 0) → S → S → Type 0
+KeepsStarts has old new = (first : _) → (ids : List (ℕ × ℕ)) → has first old ids → has first new ids
+
+-- this pair is added to the starts, as the last one
+abbrev pub AddsStart : {S : Type 0} → (S → S → List (ℕ × ℕ) → Type 0) → S → S → ℕ × ℕ → Type 0
+AddsStart has old new pair = (first : _) → (ids : List (ℕ × ℕ)) → has first old ids → has first new (ids ++ pair ∷ [])
+
+-- The result is the answer of the plain comparison, and `Reports` holds of the pairs that it starts, in order.
+abbrev pub Compares : Table → Table → Pair → Result Bool BtfError → (List (ℕ × ℕ) → Type 0) → Type 0
+Compares local target root result Reports =
+    (answer : Result Bool Refusal) × (listed : List Pair) × Plain local target [] root answer listed
+    × TracesBy Reports result answer (firsts listed)
+
+-- The walk of a pair starts: it fails, and no pair is added to the starts; or the frame is that of the pair, `Learns`
+-- holds, and the pair is added.
+abbrev pub StartsPair : {S : Type 0} → Table → Table → (Pair → Bool) → ℕ × ℕ → Frame → Result Place BtfError → Type 0
+    → (S → S → List (ℕ × ℕ) → Type 0) → S → S → Type 0
+StartsPair local target passed pair frame result Learns has old new =
+    (FailsFor result (CannotStart local target (pair_of pair)) × KeepsStarts has old new)
+    ⊎ (HasStarted local target passed (pair_of pair) frame result × (frame.pair ≡ pair) × Learns
+    × AddsStart has old new pair)

@@ -8,7 +8,7 @@ ghost use Rattle.btf_records.specs.BtfType.{record_of, type_kind};
 ghost use Rattle.btf_compare.specs.FieldStep.{FieldStepIs};
 ghost use Rattle.btf_compare.specs.Pairs.{id_pair};
 
-use crate::position::resolved;
+use crate::position::resolve;
 use bstr::ByteSlice;
 use btf_plain::BtfError;
 use btf_records::BtfType;
@@ -62,11 +62,11 @@ pub fn fields_are_compatible(
 fn step_at(local: &Btf, local_id: u32, target: &Btf, target_id: u32) -> FieldStep
     ensures { FieldStepIs result (FieldsFind local.now target.now (id_pair local_id target_id)) }
 {
-    let (local_at, local_type) = match resolved(local, local_id) {
+    let (local_at, local_type) = match resolve(local, local_id) {
         Ok(found) => found,
         Err(e) => return FieldStep::Ends(Err(e)),
     };
-    match resolved(target, target_id) {
+    match resolve(target, target_id) {
         Ok((_, target_type)) => step_of(local, local_at, local_type, target, target_type),
         Err(e) => FieldStep::Ends(Err(e)),
     }
@@ -114,14 +114,14 @@ fn by_kind(
         }
         (BtfType::Ptr(_) | BtfType::Float(_), _) => FieldStep::Ends(Ok(true)),
         (BtfType::Fwd(_) | BtfType::Enum(_) | BtfType::Enum64(_), _) => {
-            FieldStep::Ends(named_alike(local, local_type, target, target_type))
+            FieldStep::Ends(have_same_name(local, local_type, target, target_type))
         }
         _ => FieldStep::Ends(Err(BtfError::UnexpectedBtfType { type_id: local_id })),
     }
 }
 
 /// Whether two types have the same name, ignoring flavors.
-fn named_alike(
+fn have_same_name(
     local: &Btf,
     local_type: &BtfType,
     target: &Btf,

@@ -6,13 +6,12 @@ ghost use Rattle.std.specs.Prelude.{◌≡◌, ◌+◌, ◌<◌, Ok, IsTrue, fal
 ghost use Rattle.btf_model.specs.Compat.{ResolvesPair};
 ghost use Rattle.btf_model.specs.Fields.{IsAt};
 ghost use Rattle.btf_model.specs.Run.{new_frame};
-ghost use Rattle.btf_model.specs.Table.{Table};
 ghost use Rattle.btf_plain.specs.Error.{Meets};
 ghost use Rattle.btf_records.specs.BtfType.{record_of, type_kind};
-ghost use Rattle.btf_compare.specs.Compared.{AreAt, WalksTo, ComesTo, IsFound, AfterStep, AfterSteps, NextParameterIs, frame_of, passed_in};
+ghost use Rattle.btf_compare.specs.Compared.{AreAt, WalksTo, ComesTo, NextParameterIs, frame_of, passed_in, StepsFirst, StepsFrom};
 ghost use Rattle.btf_compare.specs.Pairs.{pair_of};
 
-use crate::position::{Position, ProtoPair, found_at, is_modifier, types_at};
+use crate::position::{Position, ProtoPair, is_modifier, position_at, types_at};
 use btf_plain::BtfError;
 use btf_records::BtfType;
 use btf_table::{Btf, WALK_LIMIT};
@@ -106,10 +105,8 @@ impl Frame {
         passed: &BTreeSet<(u32, u32)>,
     ) -> Option<Result<Place<'a>, BtfError>>
         requires { self.old.taken < WALK_LIMIT }
-        ensures steps { (local target : Table)
-            → IsAt local self.old.at.0 (type_kind local_type.now) (record_of local_type.now)
-            → IsAt target self.old.at.1 (type_kind target_type.now) (record_of target_type.now)
-            → AfterSteps local target (passed_in passed.now) self.old self.new result }
+        ensures steps { StepsFirst self.old self.new local_type.now target_type.now
+            (passed_in passed.now) result }
         ensures pair { self.new.pair ≡ self.old.pair }
     {
         if is_modifier(local_type) || is_modifier(target_type) {
@@ -128,8 +125,7 @@ impl Frame {
         passed: &BTreeSet<(u32, u32)>,
     ) -> Option<Result<Place<'a>, BtfError>>
         requires { self.old.taken < WALK_LIMIT }
-        ensures steps { (local target : Table) → IsFound local target position.entry self.old
-            → AfterStep local target (passed_in passed.now) self.old self.new result }
+        ensures steps { StepsFrom self.old self.new position.entry (passed_in passed.now) result }
         ensures pair { self.new.pair ≡ self.old.pair }
     {
         match position {
@@ -162,7 +158,7 @@ impl Frame {
         ensures pair { self.new.pair ≡ self.old.pair }
     {
         'positions: while self.taken < POSITIONS {
-            if let Some(end) = self.step(found_at(local, target, self.at), passed) {
+            if let Some(end) = self.step(position_at(local, target, self.at), passed) {
                 return end;
             }
         }
@@ -185,7 +181,7 @@ impl Frame {
         let Some(at) = found.parameters_at(self.parameter as usize) else {
             return Ok(None);
         };
-        let pair = resolved_ids(local, target, at)?;
+        let pair = resolve_ids(local, target, at)?;
         self.parameter += 1;
         Ok(Some(pair))
     }
@@ -203,7 +199,7 @@ impl Frame {
 
 /// The ids that two ids resolve to, the local one first.
 #[inline(always)]
-fn resolved_ids(local: &Btf, target: &Btf, at: (u32, u32)) -> Result<(u32, u32), BtfError>
+fn resolve_ids(local: &Btf, target: &Btf, at: (u32, u32)) -> Result<(u32, u32), BtfError>
     ensures { Meets pair_of result (ResolvesPair local.now target.now (pair_of at)) }
 {
     let local_id = local.resolve_type(at.0)?;

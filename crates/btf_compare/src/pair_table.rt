@@ -183,7 +183,7 @@ impl PairTable {
     {
         self.buckets.reserve(1)?;
         let many = self.buckets.len();
-        let more = gained(many);
+        let more = room_gained(many);
         let next = many - (self.mask / 2 + 1);
         let (stay, go) = self.buckets[next].split(self.mask, many);
         self.buckets[next] = stay;
@@ -199,7 +199,7 @@ impl PairTable {
 /// The number of pairs that the buckets take, after this number of buckets has grown by one, before the table grows
 /// again. While the pairs of a full array are distributed, it is one.
 #[inline(always)]
-fn gained(many: usize) -> usize
+fn room_gained(many: usize) -> usize
     ensures gains { result + capacity many ≡ capacity (many + 1) }
     ensures some { 0 < result }
 {

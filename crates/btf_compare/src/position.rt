@@ -42,16 +42,16 @@ pub struct ProtoPair<'a> {
 }
 
 /// Compares a pair of ids. Both are resolved, the local one first.
-pub fn found_at<'a>(local: &'a Btf, target: &'a Btf, at: (u32, u32)) -> Position<'a>
+pub fn position_at<'a>(local: &'a Btf, target: &'a Btf, at: (u32, u32)) -> Position<'a>
     ensures position { PositionIs result (Finds local.now target.now (pair_of at)) }
     ensures ids { IfPrototypes result (λ ids. ResolvesPair local.now target.now (pair_of at) (Ok ids)) }
     ensures few { HasFew result }
 {
-    let (local_id, local_type) = match resolved(local, at.0) {
+    let (local_id, local_type) = match resolve(local, at.0) {
         Ok(found) => found,
         Err(e) => return Position::Decided(Err(e)),
     };
-    match resolved(target, at.1) {
+    match resolve(target, at.1) {
         Ok((target_id, target_type)) => { types_at((local_id, target_id), local_type, target_type) }
         Err(e) => Position::Decided(Err(e)),
     }
@@ -184,7 +184,7 @@ impl ProtoPair<'_> {
 
 /// The id and the type that an id resolves to.
 #[inline(always)]
-pub fn resolved(table: &Btf, type_id: u32) -> Result<(u32, &BtfType), BtfError>
+pub fn resolve(table: &Btf, type_id: u32) -> Result<(u32, &BtfType), BtfError>
     ensures { Meets (λ found. (found.0, type_kind found.1.now, record_of found.1.now)) result
         (IsResolved table.now type_id) }
 {

@@ -6,12 +6,10 @@
 //! on an explicit stack. A pair whose walk ended with true is *known to be compatible*, and is not walked again. The
 //! first pair that is not compatible ends the run with false.
 
-ghost use Rattle.std.specs.Prelude.{◌≡◌, ◌⊎◌, ℕ, ◌+◌, None, IsSome, [], ◌∷◌, ◌++◌, List, Bool, Result, OnOk, MatchOption, true, false};
+ghost use Rattle.std.specs.Prelude.{◌≡◌, ℕ, ◌+◌, None, IsSome, [], ◌∷◌, ◌++◌, List, Result, OnOk, MatchOption, true, false};
 ghost use Rattle.std.specs.BTreeSet.{IsEmpty};
-ghost use Rattle.btf_model.specs.Fields.{Pair, HaveKinds};
-ghost use Rattle.btf_model.specs.Refusal.{Refusal};
-ghost use Rattle.btf_model.specs.Compat.{Plain, firsts};
-ghost use Rattle.btf_compare.specs.Compared.{IsStarted, FailsFor, HasStarted, CannotStart, TracesBy, GainsOnly, NotesPrototypes, WalksTo, AreAt, frame_of, passed_in, progress_of, progress_compatible};
+ghost use Rattle.btf_model.specs.Fields.{HaveKinds};
+ghost use Rattle.btf_compare.specs.Compared.{IsStarted, GainsOnly, NotesPrototypes, WalksTo, AreAt, frame_of, passed_in, progress_of, progress_compatible, Compares, StartsPair};
 ghost use Rattle.btf_model.specs.Run.{new_frame};
 ghost use Rattle.btf_compare.specs.PairMap.{known_progress, count, Learns};
 ghost use Rattle.btf_compare.specs.Pairs.{pair_of};
@@ -159,14 +157,7 @@ fn start<'a, L: Listed, S: Starts>(
     starts: &mut S,
 ) -> Result<Place<'a>, BtfError>
     requires { L.knows listed.old pair ≡ None }
-    ensures { (FailsFor result (CannotStart local.now target.now (pair_of pair))
-        × ((first : S) → (ids : List (ℕ × ℕ)) → S.has_added first starts.old ids
-        → S.has_added first starts.new ids))
-        ⊎ (HasStarted local.now target.now (passed_in passed.now) (pair_of pair) frame.new result
-        × (frame.new.pair ≡ pair)
-        × L.learns listed.old listed.new pair (progress_of result)
-        × ((first : S) → (ids : List (ℕ × ℕ)) → S.has_added first starts.old ids
-        → S.has_added first starts.new (ids ++ pair ∷ []))) }
+    ensures { StartsPair local.now target.now (passed_in passed.now) pair frame.new result (L.learns listed.old listed.new pair (progress_of result)) S.has_added starts.old starts.new }
 {
     let local_type = local.type_by_id(pair.0)?;
     let target_type = target.type_by_id(pair.1)?;
@@ -187,9 +178,7 @@ pub fn compare<S: Starts>(
     starts: &mut S,
 ) -> Result<bool, BtfError>
     requires { S.has_added starts.old starts.old [] }
-    ensures { (answer : Result Bool Refusal) × (listed : List Pair)
-        × Plain local.now target.now [] (pair_of root) answer listed
-        × TracesBy (S.has_added starts.old starts.new) result answer (firsts listed) }
+    ensures { Compares local.now target.now (pair_of root) result (S.has_added starts.old starts.new) }
 {
     let alloc = allocator_of(local);
     // The contract's answer exists only if each record has a kind. A use of a table proves that its records have.
@@ -226,9 +215,7 @@ fn compare_on<S: Starts>(
     requires here { AreAt local.now target.now first prototypes }
     requires kinds { HaveKinds target.now }
     ensures { (before : S) → S.has_added before starts.old (first.pair ∷ [])
-        → (answer : Result Bool Refusal) × (listed : List Pair)
-        × Plain local.now target.now [] (pair_of first.pair) answer listed
-        × TracesBy (S.has_added before starts.new) result answer (firsts listed) }
+        → Compares local.now target.now (pair_of first.pair) result (S.has_added before starts.new) }
 {
     let mut run = Run::new(allocator_of(local));
     run.seen.insert(first.pair, Progress::Open)?;

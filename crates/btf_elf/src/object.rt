@@ -1,16 +1,15 @@
 //! Objects.
 
-ghost use Rattle.std.specs.Prelude.{◌≡◌, ◌⊎◌, ◌<◌, ◌≤◌, true, Some, IsSome, IfSome, IfNone, IfOk, IfErr, IsErrAnd, slice_get, position, MatchResult, length};
-ghost use Rattle.std.specs.Option.{option_copied};
+ghost use Rattle.std.specs.Prelude.{◌≡◌, ◌⊎◌, ◌<◌, ◌≤◌, Some, IsSome, IfSome, IfNone, IfOk, IfErr, IsErrAnd, slice_get, position, MatchResult, length};
 ghost use Rattle.std.specs.Str.{bytes_eq};
 ghost use Rattle.btf_elf_model.specs.Object as model;
 ghost use Rattle.btf_elf_model.specs.Replaced.{is_replaceable, place};
-ghost use Rattle.btf_elf.specs.Results.{IsElfError};
+ghost use Rattle.btf_elf.specs.Results.{IsElfError, FindsReplaceable};
 ghost use Rattle.btf_elf.specs.Writing.{replace_error, HasReplaced};
 
 use crate::error::{ObjectError, ReplaceError};
 use crate::header::{check_header, read_header};
-use crate::replace::{aligned_end, fits, is_replaceable, rewritten};
+use crate::replace::{aligned_end, fits, is_replaceable, write_replaced};
 use crate::section::{check_sections, contents};
 use crate::strings::{has_name, name_at, read_names, short_name};
 use crate::symbols::{SymbolTable, check_symbols, read_symbols, symbol};
@@ -159,9 +158,7 @@ impl<'a> Object<'a> {
 
     /// The header of a section whose bytes can be replaced.
     fn replaceable(&self, index: usize) -> Result<SectionHeader, ReplaceError>
-        ensures { MatchResult result
-            (λ s. (slice_get self.now.sections index ≡ Some s) × (is_replaceable index s ≡ true))
-            (λ e. replace_error self.now index ≡ Some e) }
+        ensures { FindsReplaceable self.now index result }
     {
         let Some(section) = self.sections.get(index) else {
             return Err(ReplaceError::NoSuchSection { index });
@@ -210,7 +207,7 @@ impl<'a> Object<'a> {
         if offset.checked_add(given.len() as u64).is_none() {
             return Err(ReplaceError::OutOfMemory);
         }
-        let file = rewritten(alloc, &self.header, self.bytes, index, offset, given)?;
+        let file = write_replaced(alloc, &self.header, self.bytes, index, offset, given)?;
         Ok(file)
     }
 }

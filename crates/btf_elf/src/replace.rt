@@ -114,7 +114,7 @@ fn copy_up_to(alloc: Global, bytes: &[u8], end: usize) -> Result<Vec<u8>, AllocE
 
 /// The bytes of a file in which the bytes of a section, at an offset, and two words of the section's header are
 /// replaced.
-pub fn rewritten(
+pub fn write_replaced(
     alloc: Global,
     header: &FileHeader,
     bytes: &[u8],

@@ -1,12 +1,10 @@
 //! The table of section headers.
 
-ghost use Rattle.std.specs.Prelude.{◌≡◌, ◌≢◌, ◌+◌, ◌-◌, ◌*◌, max, ◌/◌, ◌<◌, ◌^◌, ◌≤◌, length, drop, map, MatchOption, IfOk, OnOk};
-ghost use Rattle.std.specs.Simd.{first_chunks};
-ghost use Rattle.btf_elf_model.specs.Header.{file_header_len};
+ghost use Rattle.std.specs.Prelude.{◌≡◌, ◌≢◌, ◌+◌, ◌-◌, ◌*◌, max, ◌/◌, ◌<◌, ◌^◌, length, map, IfOk, OnOk};
 ghost use Rattle.btf_elf_model.specs.Section.{section_header, section_count, table_end};
 ghost use Rattle.btf_elf_model.specs.Object.{table_error};
 ghost use Rattle.btf_elf.specs.Results.{HasError};
-ghost use Rattle.btf_elf.specs.Table.{section_header_bytes, count_by_first, IsTableOutside};
+ghost use Rattle.btf_elf.specs.Table.{section_header_bytes, count_by_first, IsEntriesAt, FindsTable};
 
 use crate::words::{word_at, xword_at};
 use btf_elf_model::{FileHeader, ParseError, SectionHeader};
@@ -46,12 +44,7 @@ fn stated_count(header: &FileHeader, first: &[u8; 64]) -> u64
 
 /// All complete section headers from `e_shoff` on; none if `e_shoff` is after the end.
 fn entries_at(bytes: &[u8], offset: u64) -> Option<&[[u8; 64]]>
-    ensures { MatchOption result
-        (length bytes.now < offset)
-        (λ t. (offset ≤ length bytes.now)
-        × (t.now ≡ first_chunks file_header_len ((length bytes.now - offset) / 64)
-        (drop offset bytes.now))
-        × (length t.now ≡ (length bytes.now - offset) / 64)) }
+    ensures { IsEntriesAt bytes.now offset result }
 {
     let rest = bytes.get(offset as usize..)?;
     let (entries, _) = rest.as_chunks::<64>();
@@ -75,11 +68,7 @@ pub fn section_table<'a>(bytes: &'a [u8], header: &FileHeader) -> Result<&'a [[u
 /// The table of section headers, if it begins after the file header and ends within the bytes.
 fn find_table<'a>(bytes: &'a [u8], header: &FileHeader) -> Option<&'a [[u8; 64]]>
     requires { header.now.section_headers ≢ 0 }
-    ensures { MatchOption result
-        (IsTableOutside header.now bytes.now)
-        (λ t. ¬ (IsTableOutside header.now bytes.now) ×
-        (t.now ≡ section_header_bytes header.now bytes.now)
-        × (length t.now ≡ section_count header.now bytes.now)) }
+    ensures { FindsTable bytes.now header.now result }
 {
     if header.section_headers < 64 {
         return None;

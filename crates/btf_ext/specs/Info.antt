@@ -11,6 +11,9 @@ use Rattle.btf_ext.specs.declared.info.func.bpf_func_info.{bpf_func_info}
 use Rattle.btf_ext.specs.declared.info.func.FuncSecInfo.{FuncSecInfo}
 use Rattle.btf_ext.specs.declared.info.line.bpf_line_info.{bpf_line_info}
 use Rattle.btf_ext.specs.declared.info.line.LineSecInfo.{LineSecInfo}
+use Rattle.btf_model.specs.Table.{Table}
+use Rattle.btf_model.specs.Text.{text_at}
+use Rattle.btf_ext.specs.declared.sections.SecInfo.{SecInfo}
 
 -- the words of a function record
 abbrev pub func_words : bpf_func_info → List ℕ
@@ -52,3 +55,8 @@ AreByName order width strings p (Ok found) =
     (sections : List Named) × AreNamed order p.size strings p.bytes (Ok sections)
     × ((name : List ℕ) → found name ≡ records_named order width p sections name)
 AreByName order width strings p (Err refusal) = AreNamed order p.size strings p.bytes (Err refusal)
+
+-- The records are added under the name of a section.
+abbrev pub GainsSection : Table → SecInfo → Records → (List ℕ → Option Records) → (List ℕ → Option Records) → Type 0
+GainsSection t section records old new =
+    (text : List ℕ) → text_at t.strings section.name_offset ≡ Ok text → GainsUnder text records old new

@@ -1,9 +1,9 @@
 //! The header of `.BTF.ext`, and the three ranges that it names.
 
-ghost use Rattle.std.specs.Prelude.{◌≡◌, ◌++◌, ◌-◌, ◌≤◌, length, replicate, MatchOption};
-ghost use Rattle.btf_model.specs.Ext.{HasHeader, HasPart, IsRange, part_of, header_words};
+ghost use Rattle.std.specs.Prelude.{◌≡◌, ◌++◌, ◌-◌, ◌≤◌, length, replicate};
+ghost use Rattle.btf_model.specs.Ext.{HasHeader, HasPart, header_words};
 ghost use Rattle.btf_plain.specs.Error.{Meets};
-ghost use Rattle.btf_ext.specs.ExtHeader.{ext_header, range, part};
+ghost use Rattle.btf_ext.specs.ExtHeader.{ext_header, range, part, FindsPart};
 
 use crate::words::word_at;
 use btf_plain::{BtfError, Endianness};
@@ -54,7 +54,7 @@ impl Header {
         if data.len() < hdr_len {
             return Err(BtfError::InvalidHeader);
         }
-        let bytes = filled_up(&data[..hdr_len.min(HEADER_LEN)]);
+        let bytes = pad(&data[..hdr_len.min(HEADER_LEN)]);
         Ok(Header::of_bytes(&bytes, endianness))
     }
 
@@ -88,7 +88,7 @@ impl Header {
 }
 
 /// Bytes, padded with zeros.
-fn filled_up(given: &[u8]) -> [u8; 32]
+fn pad(given: &[u8]) -> [u8; 32]
     requires { length given.now ≤ 32 }
     ensures { result ≡ given.now ++ replicate (32 - length given.now) 0 }
 {
@@ -122,10 +122,7 @@ impl Range {
 
     /// The contents of the range; None if it is not valid.
     fn find<'a>(&self, data: &'a [u8], endianness: Endianness) -> Option<Part<'a>>
-        ensures { MatchOption result
-            (¬ (IsRange endianness «data».now (range self.now)))
-            (λ p. IsRange endianness «data».now (range self.now)
-            × (part p ≡ part_of endianness «data».now (range self.now))) }
+        ensures { FindsPart self.now «data».now endianness result }
     {
         let start = self.start();
         let bytes = data.get(start..start + self.len as usize)?;

@@ -1,10 +1,7 @@
 //! Sections of records, one after another.
 
-ghost use Rattle.std.specs.Prelude.{◌≡◌, ◌<◌, ◌≤◌, ◌++◌, length, drop, Some, MatchOption, MatchResult};
-ghost use Rattle.btf_model.specs.Blob.{word_at};
-ghost use Rattle.btf_model.specs.Ext.{IsSection, BeginsNoSection, ext_section_bytes, cut_refusal};
-ghost use Rattle.btf_plain.specs.Error.{refusal_of};
-ghost use Rattle.btf_ext.specs.SecInfo.{section_of};
+ghost use Rattle.std.specs.Prelude.{◌≡◌, ◌<◌, length, Some};
+ghost use Rattle.btf_ext.specs.SecInfo.{SplitsHead, SplitsSection};
 
 use btf_plain::{BtfError, Endianness};
 use std::marker::Model;
@@ -50,12 +47,7 @@ impl<'a> Model for SecInfoIter<'a> {
 impl<'a> SecInfoIter<'a> {
     /// The sections in bytes, with words in this byte order; `rec_size` is the number of bytes of a record.
     pub fn new(data: &'a [u8], rec_size: usize, endianness: Endianness) -> Self
-        ensures { result ≡ record {
-          order = endianness;
-          size = rec_size;
-          bytes =
-              «data».now;
-        } }
+        ensures { result ≡ record { order = endianness; size = rec_size; bytes = «data».now } }
     {
         SecInfoIter {
             bytes: data,
@@ -95,11 +87,7 @@ impl<'a> Iterator for SecInfoIter<'a> {
 
 /// The two words before a section's records, and the bytes after them; None if there are fewer than two words.
 fn split_head(bytes: &[u8], endianness: Endianness) -> Option<(u32, u32, &[u8])>
-    ensures { MatchOption result
-        (length bytes.now < 8)
-        (λ x. (8 ≤ length bytes.now) × (x.0 ≡ word_at endianness 0 bytes.now)
-        × (x.1 ≡ word_at endianness 4 bytes.now)
-        × (x.2.now ≡ drop 4 (drop 4 bytes.now))) }
+    ensures { SplitsHead bytes.now endianness result }
 {
     let (name_offset, rest) = bytes.split_first_chunk::<4>()?;
     let (num_info, rest) = rest.split_first_chunk::<4>()?;
@@ -116,11 +104,7 @@ fn split_section(
     rec_size: usize,
     endianness: Endianness,
 ) -> Result<(SecInfo<'_>, &[u8]), BtfError>
-    ensures { MatchResult result
-        (λ x. IsSection rec_size (section_of x.0)
-        × (bytes.now ≡ ext_section_bytes endianness (section_of x.0) ++ x.1.now))
-        (λ e. BeginsNoSection endianness rec_size bytes.now
-        × (refusal_of e ≡ Some (cut_refusal endianness rec_size bytes.now))) }
+    ensures { SplitsSection bytes.now rec_size endianness result }
 {
     let section_len = bytes.len();
     let Some((name_offset, num_info, rest)) = split_head(bytes, endianness) else {

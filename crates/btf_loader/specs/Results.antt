@@ -1,11 +1,14 @@
 -- What the steps of the loader return, in the definitions' terms.
-use Rattle.std.specs.Prelude.{ℕ, option_map, Bool, true, false}
+use Rattle.std.specs.Prelude.{ℕ, option_map, Bool, true, false, List}
 use Rattle.btf_model.specs.Table.{Table}
 use Rattle.btf_relocate_model.specs.Modules.{KernelSetting, Targets}
-use Rattle.btf_loader_model.specs.Loader.{Outcomes}
+use Rattle.btf_loader_model.specs.Loader.{Outcomes, relocated_file, relocated_at, section_at}
+use Rattle.btf_relocate.specs.Modules.{targets_view}
+use Rattle.btf_loader.specs.declared.step.Loader.{Loader}
 use Rattle.btf_loader.specs.declared.step.Refusals.{Refusals}
 use Rattle.btf_loader.specs.declared.step.Refusals.TheVariants.{Refuse, Keep}
 use Rattle.btf_loader.specs.declared.step.SectionOutcomes.{SectionOutcomes}
+use Rattle.btf_relocate.specs.Sections.{is_shared}
 
 -- the outcomes of a section of records, with the string offset of its name
 abbrev pub outcomes_of : SectionOutcomes → ℕ × Outcomes
@@ -19,3 +22,18 @@ refuses_errors Keep = false
 -- a program's table, and the tables that it is relocated against
 abbrev pub setting : Table → Targets → KernelSetting
 setting local targets = record { local = local; targets = targets }
+
+-- those of a loader
+abbrev pub setting_of : Loader → KernelSetting
+setting_of loader = setting loader.local.now (targets_view loader.targets.now)
+
+-- what a loader makes of a file and its sections of records: their outcomes, and the new file
+abbrev pub file_relocated : Loader → List ℕ → List (ℕ × List (List ℕ)) → List (ℕ × Outcomes) × List ℕ
+file_relocated loader file sections =
+    relocated_file (setting_of loader) (is_shared loader.policy) loader.object.now file sections
+
+-- the same for the section of records whose name is at this string offset
+abbrev pub records_relocated : Loader → List ℕ → ℕ → List (List ℕ) → Outcomes × List ℕ
+records_relocated loader file name_offset records =
+    relocated_at (setting_of loader) (is_shared loader.policy)
+    (section_at (setting_of loader) loader.object.now name_offset) file records

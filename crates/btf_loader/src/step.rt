@@ -4,14 +4,13 @@ ghost use Rattle.std.specs.Prelude.{◌≡◌, ℕ, ◌+◌, ◌<◌, ◌++◌, 
 ghost use Rattle.std.specs.List.{list_any};
 ghost use Rattle.btf_ext.specs.Relocation.{relocation};
 ghost use Rattle.btf_model.specs.Text.{text_at};
-ghost use Rattle.btf_loader_model.specs.Loader.{any_error, has_error, index_at, is_error, is_short_at, is_unreadable, relocated_at, relocated_file, section_at};
+ghost use Rattle.btf_loader_model.specs.Loader.{any_error, has_error, index_at, is_error, is_short_at, is_unreadable, relocated_at};
 ghost use Rattle.btf_loader_model.specs.Refused.{BadRecord, BadSectionName, bad_outcome, bad_record, records_reason, sections_reason, reason_when};
 ghost use Rattle.btf_loader.specs.Errors.{Reports};
 ghost use Rattle.btf_loader.specs.Names.{HasIndices};
 ghost use Rattle.btf_loader.specs.Places.{HasPlaces};
-ghost use Rattle.btf_loader.specs.Results.{outcomes_of, refuses_errors, setting};
+ghost use Rattle.btf_loader.specs.Results.{outcomes_of, refuses_errors, setting_of, file_relocated, records_relocated};
 ghost use Rattle.btf_loader.specs.declared.step.Refusals.TheVariants.{Refuse};
-ghost use Rattle.btf_relocate.specs.Modules.{targets_view};
 ghost use Rattle.btf_relocate.specs.Sections.{is_shared};
 ghost use Rattle.btf_table.specs.Readable.{IsReadableEnd};
 
@@ -72,15 +71,12 @@ impl<'a, 'o, 't> Loader<'a, 'o, 't> {
         requires placed { HasPlaces self.now.places.now self.now.object.now.sections }
         requires readable { IfSome self.now.readable_end (IsReadableEnd self.now.local.now.strings) }
         ensures relocated { IfOk result (λ r. (map outcomes_of r.items, file.new)
-            ≡ relocated_file (setting self.now.local.now (targets_view self.now.targets.now))
-            (is_shared self.now.policy) self.now.object.now file.old
-            (map relocation relocations.now)) }
+            ≡ file_relocated self.now file.old (map relocation relocations.now)) }
         ensures refused { IfOk result (λ r. self.now.refusals ≡ Refuse
             → any_error (map outcomes_of r.items) ≡ false) }
         ensures readable { OnOk result (list_any (is_unreadable self.now.local.now.strings)
             (map relocation relocations.now) ≡ false) }
-        ensures reports { Reports
-            (sections_reason (setting self.now.local.now (targets_view self.now.targets.now))
+        ensures reports { Reports (sections_reason (setting_of self.now)
             (is_shared self.now.policy) (refuses_errors self.now.refusals) self.now.object.now
             file.old (map relocation relocations.now)) result }
     {
@@ -102,19 +98,13 @@ impl<'a, 'o, 't> Loader<'a, 'o, 't> {
         requires named { HasIndices self.now.named.now self.now.object.now }
         requires placed { HasPlaces self.now.places.now self.now.object.now.sections }
         requires readable { IfSome self.now.readable_end (IsReadableEnd self.now.local.now.strings) }
-        ensures relocated { IfOk result (λ r. (option_map (λ v. v.items) r, file.new)
-            ≡ relocated_at (setting self.now.local.now (targets_view self.now.targets.now))
-            (is_shared self.now.policy)
-            (section_at (setting self.now.local.now (targets_view self.now.targets.now))
-            self.now.object.now
-            section.now.0)
-            file.old section.now.1.items) }
+        ensures relocated { IfOk result
+            (λ r. (option_map (λ v. v.items) r, file.new) ≡ records_relocated self.now file.old section.now.0 section.now.1.items) }
         ensures refused { IfOk result (λ r. self.now.refusals ≡ Refuse
             → has_error (option_map (λ v. v.items) r) ≡ false) }
         ensures readable { OnOk result
             (is_err (text_at self.now.local.now.strings section.now.0) ≡ false) }
-        ensures reports { Reports
-            (records_reason (setting self.now.local.now (targets_view self.now.targets.now))
+        ensures reports { Reports (records_reason (setting_of self.now)
             (is_shared self.now.policy) (refuses_errors self.now.refusals) self.now.object.now
             file.old (relocation section.now)) result }
     {
@@ -140,7 +130,7 @@ impl<'a, 'o, 't> Loader<'a, 'o, 't> {
         file: &mut [u8],
     ) -> Result<Vec<Outcome>, AllocError>
         ensures { IfOk result (λ outcomes. (Some outcomes.items, file.new)
-            ≡ relocated_at (setting self.now.local.now (targets_view self.now.targets.now))
+            ≡ relocated_at (setting_of self.now)
             (is_shared self.now.policy) (Some section.now) file.old records.now) }
     {
         let start = file.len().min(section.offset as usize);
@@ -159,8 +149,7 @@ impl<'a, 'o, 't> Loader<'a, 'o, 't> {
     /// Whether a text can be read at a string offset; false if that is not known.
     fn is_readable(&self, name_offset: u32) -> bool
         requires { IfSome self.now.readable_end (IsReadableEnd self.now.local.now.strings) }
-        ensures { result ≡ true
-            → is_err (text_at self.now.local.now.strings name_offset) ≡ false }
+        ensures { result ≡ true → is_err (text_at self.now.local.now.strings name_offset) ≡ false }
     {
         match self.readable_end {
             Some(end) => (name_offset as usize) < end,
@@ -173,10 +162,8 @@ impl<'a, 'o, 't> Loader<'a, 'o, 't> {
     fn index_of(&self, name_offset: u32) -> Result<Option<usize>, LoaderError>
         requires named { HasIndices self.now.named.now self.now.object.now }
         requires readable { IfSome self.now.readable_end (IsReadableEnd self.now.local.now.strings) }
-        ensures index { IfOk result (λ index. index
-            ≡ index_at (setting self.now.local.now (targets_view self.now.targets.now))
-            self.now.object.now
-            name_offset) }
+        ensures index { IfOk result (λ index. index ≡ index_at
+            (setting_of self.now) self.now.object.now name_offset) }
         ensures readable { OnOk result
             (is_err (text_at self.now.local.now.strings name_offset) ≡ false) }
         ensures reports { Reports

@@ -18,7 +18,7 @@ use Rattle.btf_table.specs.KsymsStep.{model_entry}
 use Rattle.btf_table.proofs.KsymsEntries.{at, zero_entry}
 use Rattle.btf_object_model.specs.Kconfig as model
 use Rattle.btf_object_model.specs.Kconfig.{FindsValue, FindsExternBy, FindsExtern, FindsExterns, extern_name, extern_cmp, total, externs_laid_out}
-use Rattle.btf_object.specs.Kconfig.{model_extern, IsVariable, HasExterns, IsKconfigSection}
+use Rattle.btf_object.specs.Kconfig.{model_extern, IsVariable, HasExterns, IsKconfigSection, AreLaidOut}
 use Rattle.btf_object.specs.declared.finalize.kconfig.Extern.{Extern}
 use Rattle.btf_object.proofs.FinalSections.{all_entries, entries_up_to, entries_len, filter-map, entry_words_same}
 
@@ -145,10 +145,6 @@ one_laid_out xs i d es new size end lt p is fits end_is =
       ends = end_is ∙ ap (λ (n : ℕ). n + x.value.size) p.ends ∙ sym (ap total more ∙ total-append before (model_extern x));
       small = omega (arith, fits, end_is);
     }
-
--- The externs have these entries and this total size, which has 32 bits.
-abbrev pub AreLaidOut : List Extern → List DataSecEntry → ℕ → Type 0
-AreLaidOut xs es size = (map model_entry es ≡ externs_laid_out 0 (map model_extern xs)) × (size ≡ total (map model_extern xs)) × (size < 2 ^ 32)
 
 pub all_laid_out : (xs : List Extern) (i : ℕ) (es : List DataSecEntry) (size : ℕ) → length xs ≤ i → AreLaidOutBefore xs i es size → AreLaidOut xs es size
 all_laid_out xs i es size end p =

@@ -1,5 +1,7 @@
 -- Why an object is not rewritten, as the code reports it.
 use Rattle.std.specs.Prelude.{◌≡◌, ℕ, ⊤, Bool, List, Option, Some, None}
+use Rattle.std.specs.Borrow.{Bor}
+use Rattle.std.specs.Option.{option_map}
 use Rattle.btf_model.specs.Refusal.{Refusal}
 use Rattle.btf_model.specs.Table.{Table}
 use Rattle.btf_elf.specs.Writing.{replace_error}
@@ -22,6 +24,8 @@ use Rattle.btf_object.specs.Kernel.{kernel_has}
 use Rattle.btf_object.specs.declared.kernel.Kernel.{Kernel}
 use Rattle.btf_object.specs.declared.error.SanitizeError.{SanitizeError}
 use Rattle.btf_object.specs.declared.error.SanitizeError.TheVariants.{Object, NoTable, Table as TableError, Section, OutOfMemory}
+use Rattle.btf_model.specs.Blob.{canon}
+use Rattle.btf_object_model.specs.Finalized.{with_ksyms_size, with_old_sizes}
 
 -- ---- errors of the steps
 
@@ -42,6 +46,10 @@ of_section e = Section e
 -- the target of a rewrite, by the arguments of a call
 abbrev pub target_of : Kernel → FillPolicy → Option (List ℕ) → Target
 target_of kernel policy placeholder = record { has = kernel_has kernel; policy = policy; placeholder = placeholder }
+
+-- the same with a placeholder that the code holds
+abbrev pub target_for : Kernel → FillPolicy → Option (Bor (List ℕ)) → Target
+target_for kernel policy placeholder = target_of kernel policy (option_map (λ name. name.now) placeholder)
 
 -- The bytes represent no object; or the object has no section `.BTF`; or the table of this section is refused; or it is
 -- rewritten, and the section cannot be replaced. An allocation may fail in each step.
@@ -81,3 +89,9 @@ RewritesFinalizedFor has o table =
 -- why an object is not finalized and rewritten for a kernel with these features
 abbrev pub IsFinalizedCause : List ℕ → (BtfFeature → Bool) → SanitizeError → Type 0
 IsFinalizedCause bytes has e = IsCauseBy (RefusesFinalizedFor has) (RewritesFinalizedFor has) bytes e
+
+-- The blob is that of the table of an object that is finalized and rewritten for a kernel with these features.
+abbrev pub IsFinalizedBlob : elf.Object → List ℕ → (BtfFeature → Bool) → List ℕ → List FeatureAnswer → Type 0
+IsFinalizedBlob o table has blob answers =
+    (old base new : Table) × (made : RewritesFinalized o table has old base new answers)
+    × (blob ≡ canon (with_old_sizes (with_ksyms_size base made.ids) new))

@@ -1,5 +1,5 @@
 -- What the steps find and make that finalize a table and set the sizes of STRUCTs.
-use Rattle.std.specs.Prelude.{◌≡◌, ◌≢◌, ℕ, if◌then◌else◌, List, length, map, Option, Some, None, Result, Ok, Err, Vec}
+use Rattle.std.specs.Prelude.{◌≡◌, ◌≢◌, ℕ, if◌then◌else◌, List, length, map, Option, Some, None, Result, Ok, Err, Vec, is_some}
 use Rattle.std.specs.BTreeMap.{BTreeMap, get}
 use Rattle.std.specs.Option.{unwrap_or}
 use Rattle.std.specs.Ordering.{nat_cmp}
@@ -12,10 +12,17 @@ use Rattle.btf_rewrite_model.specs.Made.{Entry, entries, record_at, kind_at, str
 use Rattle.btf_rewrite_model.specs.Pass.{Layout}
 use Rattle.btf_plain.specs.declared.items.DataSecEntry.{DataSecEntry}
 use Rattle.btf_table.specs.KsymsStep.{model_entry}
-use Rattle.btf_object_model.specs.Finalized.{known_section_size, entry_at_offset, is_completed, completed_size, final_entries, has_data_sec_kind, is_struct, IsFinal}
+use Rattle.btf_object_model.specs.Finalized.{known_section_size, entry_at_offset, is_completed, completed_size, final_entries, has_data_sec_kind, is_struct, IsFinal, entry_offset}
+use Rattle.btf_table.specs.Layout.{layout_of}
 use Rattle.btf_object.specs.declared.finalize.known.KnownNames.{KnownNames}
+use Rattle.btf_object.specs.declared.layout.ObjectLayout.{ObjectLayout}
+use Rattle.std.specs.List.{list_all}
 
 -- ---- names
+
+-- the sizes and the offsets of an object
+abbrev pub layout_in : {A H : Type 0} → ObjectLayout A H → Layout
+layout_in layout = layout_of layout.sections layout.symbols
 
 -- the offset of the symbol of a name, if the name can be read, and if the offset is known and has 32 bits
 abbrev pub symbol_of : Layout → Result (List ℕ) Refusal → Option (Option ℕ)
@@ -73,3 +80,9 @@ pub record ResizesAt (id size : ℕ) (old new : Table) : Type 0 where
   pub count : length new.records ≡ length old.records
   pub here : record_at new id ≡ resized_record size (record_at old id)
   pub elsewhere : (k : ℕ) → k ≢ id → record_at new k ≡ record_at old k
+
+-- the entries of a DATASEC at the offsets of their symbols; none if one of the offsets is not known
+abbrev pub entries_placed : Layout → Table → Record → Option (List Entry)
+entries_placed layout t r =
+    if list_all (λ e. is_some (entry_offset layout t e)) (entries r.tail)
+    then Some (map (entry_at_offset layout t) (entries r.tail)) else None

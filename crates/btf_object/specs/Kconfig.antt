@@ -13,6 +13,7 @@ use Rattle.btf_object_model.specs.Kconfig as model
 use Rattle.btf_object_model.specs.Kconfig.{FindsExterns, extern_cmp, total, externs_laid_out, with_record, with_globals, made_global}
 use Rattle.btf_object.specs.declared.finalize.kconfig.Extern.{Extern}
 use Rattle.btf_object.specs.declared.finalize.kconfig.Value.{Value}
+use Rattle.btf_plain.specs.declared.items.DataSecEntry.{DataSecEntry}
 
 -- ---- types of a kind
 
@@ -90,3 +91,9 @@ HasDataSecOf t id section =
 abbrev pub PutsSection : ℕ → Record → Table → Table → Type 0
 PutsSection id section old new =
     new ≡ with_record (with_globals (map (λ (e : Entry). e.type) (entries section.tail)) old) id section
+
+-- the entries of these externs, one after another, and their total size
+abbrev pub AreLaidOut : List Extern → List DataSecEntry → ℕ → Type 0
+AreLaidOut xs es size =
+    (map model_entry es ≡ externs_laid_out 0 (map model_extern xs)) × (size ≡ total (map model_extern xs))
+    × (size < 2 ^ 32)

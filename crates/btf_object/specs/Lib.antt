@@ -1,3 +1,4 @@
+pub mod Ext
 pub mod Kernel
 pub mod Names
 pub mod Ksyms

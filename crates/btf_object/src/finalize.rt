@@ -6,12 +6,11 @@ mod placeholder;
 mod section;
 mod sized;
 
-ghost use Rattle.std.specs.Prelude.{◌≡◌, ◌<◌, length, slice_get, Some, IfOk, IfErr, OnOk};
+ghost use Rattle.std.specs.Prelude.{◌≡◌, ◌<◌, length, IfErr, OnOk};
 ghost use Rattle.btf_model.specs.Record.{DataSec};
-ghost use Rattle.btf_table.specs.Layout.{layout_of};
-ghost use Rattle.btf_object_model.specs.Finalized.{IsFinal, IsFinalized};
+ghost use Rattle.btf_object_model.specs.Finalized.{IsFinalized};
 ghost use Rattle.btf_object_model.specs.SanitizedFinalized.{IsOpened};
-ghost use Rattle.btf_object.specs.Finalize.{AreNamesCached, FinalizesAt};
+ghost use Rattle.btf_object.specs.Finalize.{AreNamesCached, FinalizesAt, layout_in};
 
 use crate::finalize::kconfig::configure;
 use crate::finalize::known::KnownNames;
@@ -34,13 +33,9 @@ fn finalize_type<H: BuildHasher>(
     type_id: u32,
 ) -> Result<(), BtfError>
     requires known { type_id < length btf.old.records }
-    requires read { AreNamesCached btf.old.strings
-        (layout_of layout.now.sections layout.now.symbols) names.old }
-    ensures made { OnOk result (FinalizesAt (layout_of layout.now.sections layout.now.symbols)
-        type_id btf.old btf.new) }
-    ensures read { OnOk result
-        (AreNamesCached btf.new.strings (layout_of layout.now.sections layout.now.symbols)
-        names.new) }
+    requires read { AreNamesCached btf.old.strings (layout_in layout.now) names.old }
+    ensures made { OnOk result (FinalizesAt (layout_in layout.now) type_id btf.old btf.new) }
+    ensures read { OnOk result (AreNamesCached btf.new.strings (layout_in layout.now) names.new) }
     ensures memory { IfErr result (λ e. e ≡ BtfError.OutOfMemory) }
 {
     let Ok(BtfType::DataSec(data_sec)) = btf.type_by_id(type_id) else {
@@ -59,8 +54,7 @@ fn finalize<H: BuildHasher>(
     btf: &mut Btf,
     layout: &ObjectLayout<H>,
 ) -> Result<(), BtfError>
-    ensures made { OnOk result
-        (IsFinalized (layout_of layout.now.sections layout.now.symbols) btf.old btf.new) }
+    ensures made { OnOk result (IsFinalized (layout_in layout.now) btf.old btf.new) }
     ensures memory { IfErr result (λ e. e ≡ BtfError.OutOfMemory) }
 {
     let mut names = KnownNames::new(alloc);
@@ -77,8 +71,7 @@ pub fn open<H: BuildHasher>(
     btf: &mut Btf,
     layout: &ObjectLayout<H>,
 ) -> Result<(), BtfError>
-    ensures made { OnOk result
-        (IsOpened (layout_of layout.now.sections layout.now.symbols) btf.old btf.new) }
+    ensures made { OnOk result (IsOpened (layout_in layout.now) btf.old btf.new) }
     ensures memory { IfErr result (λ e. e ≡ BtfError.OutOfMemory) }
 {
     configure(alloc, btf)?;

@@ -1,19 +1,16 @@
 //! Objects that are rewritten for a kernel.
 
-ghost use Rattle.std.specs.Prelude.{◌≡◌, ℕ, Option, None, IfOk, IfErr, IfSome, IfNone};
-ghost use Rattle.std.specs.Option.{option_map};
-ghost use Rattle.btf_elf_model.specs.Object as elf;
-ghost use Rattle.btf_elf_model.specs.declared.section_header.SectionHeader.{SectionHeader};
-ghost use Rattle.btf_object_model.specs.Laws.{KeepsExt};
-ghost use Rattle.btf_object_model.specs.Sanitized.{HasSection, IsSanitized, first_section_index, table_name, ext_name};
+ghost use Rattle.std.specs.Prelude.{◌≡◌, Option, None, IfOk, IfErr, IfSome, IfNone};
+ghost use Rattle.btf_object_model.specs.Sanitized.{IsSanitized, first_section_index, table_name};
 ghost use Rattle.btf_object.specs.Names.{IsTableSection};
 ghost use Rattle.btf_object_model.specs.SanitizedFinalized.{IsSanitizedFinalized};
-ghost use Rattle.btf_object.specs.Errors.{target_of, IsSanitizeCause, IsFinalizedCause};
+ghost use Rattle.btf_object.specs.Errors.{target_of, IsSanitizeCause, IsFinalizedCause, target_for};
 ghost use Rattle.btf_object.specs.Kernel.{kernel_has};
+ghost use Rattle.btf_object.specs.Ext.{KeepsItsExt};
 
 use crate::error::SanitizeError;
 use crate::kernel::Kernel;
-use crate::table::{finalized, rewritten};
+use crate::table::{finalize_table, rewrite_table};
 use arrayvec::ArrayVec;
 use btf_elf::Object;
 use btf_rewrite_model::{FeatureAnswer, FillPolicy};
@@ -40,9 +37,7 @@ pub fn sanitize_object(
 ) -> Result<(Vec<u8>, ArrayVec<FeatureAnswer, 8>), SanitizeError>
     ensures sanitized { IfOk result (λ r. IsSanitized bytes.now
         (target_of kernel.now policy None) r.0.items r.1.items) }
-    ensures ext { IfOk result (λ r. (o : elf.Object) (index : ℕ) (s : SectionHeader)
-        → HasSection bytes.now ext_name o index s
-        → (new : elf.Object) × KeepsExt bytes.now r.0.items o new index s) }
+    ensures ext { IfOk result (λ r. KeepsItsExt bytes.now r.0.items) }
     ensures refused { IfErr result (IsSanitizeCause bytes.now (target_of kernel.now policy None)) }
 {
     let hash_builder: BuildHasherDefault<FoldHasher> = BuildHasherDefault::new();
@@ -70,15 +65,12 @@ pub fn sanitize_object_with<H: BuildHasher + Clone + Drop>(
 ) -> Result<(Vec<u8>, ArrayVec<FeatureAnswer, 8>), SanitizeError>
     // The new file is the old object with the written form of the rewritten table in its section `.BTF`.
     ensures sanitized { IfOk result (λ r. IsSanitized bytes.now
-        (target_of kernel.now policy (option_map (λ name. name.now) placeholder.entry))
-        r.0.items r.1.items) }
+        (target_for kernel.now policy placeholder.entry) r.0.items r.1.items) }
     // With the new table its section `.BTF.ext` has the same contents as with the old table.
-    ensures ext { IfOk result (λ r. (o : elf.Object) (index : ℕ) (s : SectionHeader)
-        → HasSection bytes.now ext_name o index s
-        → (new : elf.Object) × KeepsExt bytes.now r.0.items o new index s) }
+    ensures ext { IfOk result (λ r. KeepsItsExt bytes.now r.0.items) }
     // An error is the first one in the stated order.
     ensures refused { IfErr result (IsSanitizeCause bytes.now
-        (target_of kernel.now policy (option_map (λ name. name.now) placeholder.entry))) }
+        (target_for kernel.now policy placeholder.entry)) }
 {
     let object = Object::parse(alloc, bytes)?;
     sanitize_parsed(alloc, &object, kernel, policy, placeholder, hash_builder)
@@ -94,20 +86,17 @@ pub fn sanitize_parsed<H: BuildHasher + Clone + Drop>(
     hash_builder: H,
 ) -> Result<(Vec<u8>, ArrayVec<FeatureAnswer, 8>), SanitizeError>
     ensures sanitized { IfOk result (λ r. IsSanitized object.now.bytes
-        (target_of kernel.now policy (option_map (λ name. name.now) placeholder.entry))
-        r.0.items r.1.items) }
-    ensures ext { IfOk result (λ r. (o : elf.Object) (index : ℕ) (s : SectionHeader)
-        → HasSection object.now.bytes ext_name o index s
-        → (new : elf.Object) × KeepsExt object.now.bytes r.0.items o new index s) }
+        (target_for kernel.now policy placeholder.entry) r.0.items r.1.items) }
+    ensures ext { IfOk result (λ r. KeepsItsExt object.now.bytes r.0.items) }
     ensures refused { IfErr result (IsSanitizeCause object.now.bytes
-        (target_of kernel.now policy (option_map (λ name. name.now) placeholder.entry))) }
+        (target_for kernel.now policy placeholder.entry)) }
 {
     // The contract is about the object of its bytes, which this shows.
     let _ = object.bytes();
     let Some((index, table)) = table_section(object) else {
         return Err(SanitizeError::NoTable);
     };
-    let (written, answers) = rewritten(
+    let (written, answers) = rewrite_table(
         alloc,
         object,
         table,
@@ -146,9 +135,7 @@ pub fn sanitize_finalized<H: BuildHasher + Clone + Drop>(
     ensures sanitized { IfOk result
         (λ r. IsSanitizedFinalized bytes.now (kernel_has kernel.now) r.0.items r.1.items) }
     // With the new table its section `.BTF.ext` has the same contents as with the old table.
-    ensures ext { IfOk result (λ r. (o : elf.Object) (index : ℕ) (s : SectionHeader)
-        → HasSection bytes.now ext_name o index s
-        → (new : elf.Object) × KeepsExt bytes.now r.0.items o new index s) }
+    ensures ext { IfOk result (λ r. KeepsItsExt bytes.now r.0.items) }
     // An error is the first one in the stated order.
     ensures refused { IfErr result (IsFinalizedCause bytes.now (kernel_has kernel.now)) }
 {
@@ -165,9 +152,7 @@ pub fn sanitize_parsed_finalized<H: BuildHasher + Clone + Drop>(
 ) -> Result<(Vec<u8>, ArrayVec<FeatureAnswer, 8>), SanitizeError>
     ensures sanitized { IfOk result
         (λ r. IsSanitizedFinalized object.now.bytes (kernel_has kernel.now) r.0.items r.1.items) }
-    ensures ext { IfOk result (λ r. (o : elf.Object) (index : ℕ) (s : SectionHeader)
-        → HasSection object.now.bytes ext_name o index s
-        → (new : elf.Object) × KeepsExt object.now.bytes r.0.items o new index s) }
+    ensures ext { IfOk result (λ r. KeepsItsExt object.now.bytes r.0.items) }
     ensures refused { IfErr result (IsFinalizedCause object.now.bytes (kernel_has kernel.now)) }
 {
     // The contract is about the object of its bytes, which this shows.
@@ -175,6 +160,6 @@ pub fn sanitize_parsed_finalized<H: BuildHasher + Clone + Drop>(
     let Some((index, table)) = table_section(object) else {
         return Err(SanitizeError::NoTable);
     };
-    let (written, answers) = finalized(alloc, object, table, kernel, hash_builder)?;
+    let (written, answers) = finalize_table(alloc, object, table, kernel, hash_builder)?;
     Ok((object.with_section(alloc, index, &written)?, answers))
 }

@@ -1,19 +1,17 @@
 //! The rewrite of an object's table.
 
 ghost use Rattle.std.specs.Prelude.{◌≡◌, None, IfOk, IfErr, IfSome};
-ghost use Rattle.std.specs.Option.{option_map};
 ghost use Rattle.btf_model.specs.Table.{Table};
 ghost use Rattle.btf_model.specs.Blob.{canon};
 ghost use Rattle.btf_rewrite_model.specs.Pass.{Asked};
 ghost use Rattle.btf_rewrite_model.specs.Rewritten.{pass_of, Rewritten, IsRefused};
-ghost use Rattle.btf_table.specs.Layout.{layout_of};
-ghost use Rattle.btf_object_model.specs.Finalized.{with_ksyms_size, with_old_sizes};
 ghost use Rattle.btf_rewrite_model.specs.FeatureSet.{answers_of};
 ghost use Rattle.btf_object_model.specs.Sanitized.{RewritesTable, RefusesTable, AreAnswers};
-ghost use Rattle.btf_object_model.specs.SanitizedFinalized.{RewritesFinalized, RefusesFinalized};
+ghost use Rattle.btf_object_model.specs.SanitizedFinalized.{RefusesFinalized};
 ghost use Rattle.btf_plain.specs.Error.{refusal_of};
-ghost use Rattle.btf_object.specs.Errors.{target_of};
+ghost use Rattle.btf_object.specs.Errors.{target_of, target_for, IsFinalizedBlob};
 ghost use Rattle.btf_object.specs.Kernel.{kernel_has};
+ghost use Rattle.btf_object.specs.Finalize.{layout_in};
 
 use crate::finalize::{add_placeholder, open, set_sizes, sizes_of};
 use crate::kernel::Kernel;
@@ -37,14 +35,13 @@ fn rewrite_for<H: BuildHasher>(
     ids: Option<KsymsIds>,
 ) -> Result<ArrayVec<FeatureAnswer, 8>, BtfError>
     ensures rewritten { IfOk result (λ answers. Rewritten policy btf.old ids
-        (layout_of layout.now.sections layout.now.symbols) (answers_of (kernel_has kernel.now))
-        btf.new) }
+        (layout_in layout.now) (answers_of (kernel_has kernel.now)) btf.new) }
     ensures answers { IfOk result (λ answers. AreAnswers (target_of kernel.now policy None)
         (Asked (pass_of policy btf.old ids
-        (layout_of layout.now.sections layout.now.symbols) answers.items)) answers.items) }
+        (layout_in layout.now) answers.items)) answers.items) }
     ensures order { IfOk result (λ answers. btf.new.order ≡ btf.old.order) }
     ensures refused { IfErr result (λ e. IfSome (refusal_of e) (IsRefused policy btf.old ids
-        (layout_of layout.now.sections layout.now.symbols) (answers_of (kernel_has kernel.now)))) }
+        (layout_in layout.now) (answers_of (kernel_has kernel.now)))) }
 {
     let has = |feature: BtfFeature| -> bool
         ensures { result ≡ kernel_has kernel.entry.now feature }
@@ -63,7 +60,7 @@ fn rewrite_for<H: BuildHasher>(
 /// Parses the bytes of a section of an object as a table, in the object's byte order, and rewrites the table for a
 /// kernel. Returns the bytes of the new table, and the features that the rewrite asked for, with the answers.
 /// `hash_builder` hashes the names of the object.
-pub fn rewritten<H: BuildHasher + Clone + Drop>(
+pub fn rewrite_table<H: BuildHasher + Clone + Drop>(
     alloc: Global,
     object: &Object<'_>,
     table: &[u8],
@@ -73,10 +70,10 @@ pub fn rewritten<H: BuildHasher + Clone + Drop>(
     hash_builder: H,
 ) -> Result<(Vec<u8>, ArrayVec<FeatureAnswer, 8>), BtfError>
     ensures made { IfOk result (λ r. (old new : Table) × RewritesTable object.now table.now
-        (target_of kernel.now policy (option_map (λ name. name.now) placeholder.entry)) old new
+        (target_for kernel.now policy placeholder.entry) old new
         r.1.items × (r.0.items ≡ canon new)) }
     ensures refused { IfErr result (λ e. IfSome (refusal_of e) (RefusesTable object.now table.now
-        (target_of kernel.now policy (option_map (λ name. name.now) placeholder.entry)))) }
+        (target_for kernel.now policy placeholder.entry))) }
 {
     let layout = ObjectLayout::read(alloc, object, hash_builder)?;
     let mut btf = Btf::parse(alloc, table, object.header().order)?;
@@ -88,17 +85,14 @@ pub fn rewritten<H: BuildHasher + Clone + Drop>(
 /// Parses the bytes of a section of an object as a table, in the object's byte order, makes of it what libbpf has of it
 /// when it has opened the object, and rewrites it for a kernel. Returns the bytes of the new table, and the features
 /// that the rewrite asked for, with the answers. `hash_builder` hashes the names of the object.
-pub fn finalized<H: BuildHasher + Clone + Drop>(
+pub fn finalize_table<H: BuildHasher + Clone + Drop>(
     alloc: Global,
     object: &Object<'_>,
     table: &[u8],
     kernel: &Kernel,
     hash_builder: H,
 ) -> Result<(Vec<u8>, ArrayVec<FeatureAnswer, 8>), BtfError>
-    ensures made { IfOk result (λ r. (old base new : Table)
-        × (made : RewritesFinalized object.now table.now (kernel_has kernel.now) old base new
-        r.1.items)
-        × (r.0.items ≡ canon (with_old_sizes (with_ksyms_size base made.ids) new))) }
+    ensures made { IfOk result (λ r. IsFinalizedBlob object.now table.now (kernel_has kernel.now) r.0.items r.1.items) }
     ensures refused { IfErr result (λ e. IfSome (refusal_of e)
         (RefusesFinalized object.now table.now (kernel_has kernel.now))) }
 {

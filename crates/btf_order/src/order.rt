@@ -5,7 +5,7 @@ ghost use Rattle.btf_order_model.specs.Order.{IsHeaderOrder};
 ghost use Rattle.btf_order.specs.Errors.{IsOrderError};
 
 use crate::progress::Progress;
-use crate::referenced::referenced;
+use crate::referenced::find_referenced;
 use crate::run::run;
 use btf_plain::BtfError;
 use btf_table::{Btf, type_count};
@@ -23,7 +23,7 @@ pub fn header_order(table: &Btf) -> Result<Vec<u32>, BtfError>
     ensures { MatchResult result (λ ids. IsHeaderOrder table.now.records ids.items)
         (λ e. IsOrderError table.now.records e) }
 {
-    let mut progress = Progress::new(table, referenced(table)?)?;
+    let mut progress = Progress::new(table, find_referenced(table)?)?;
     for id in 0..type_count(table) {
         run(table, id, &mut progress)?;
     }

@@ -7,7 +7,7 @@ use btf_table::{Btf, allocator_of, type_count};
 use std::alloc::AllocError;
 
 /// For each type, whether another type refers to it. The return type of a prototype does not count, as in libbpf.
-pub fn referenced(table: &Btf) -> Result<Vec<bool>, AllocError>
+pub fn find_referenced(table: &Btf) -> Result<Vec<bool>, AllocError>
     ensures { IfOk result (λ flags. length flags.items ≡ length table.now.records) }
 {
     let mut flags = vec![in allocator_of(table); false; type_count(table) as usize]?;

@@ -1,11 +1,14 @@
 -- The head and the tail of a record: the words that a record begins with, and the words after them.
-use Rattle.std.specs.Prelude.{◌≡◌, ℕ, ◌*◌, ◌<◌, ◌≤◌, List, length, take, drop, Result, Ok, Err}
+use Rattle.std.specs.Prelude.{◌≡◌, ℕ, ◌*◌, ◌<◌, ◌≤◌, List, length, take, drop, Result, Ok, Err, MatchResult}
 use Rattle.btf_model.specs.Word.{word_of, words_at}
 use Rattle.btf_model.specs.declared.endianness.Endianness.{Endianness}
 use Rattle.btf_model.specs.Record.{Kind, Record, vlen, tail_words}
 use Rattle.btf_model.specs.Refusal.{Refusal, InvalidTypeInfo}
 use Rattle.btf_model.specs.Spelling.{kept}
 use Rattle.btf_plain.specs.declared.head.Head.{Head}
+use Rattle.btf_plain.specs.declared.error.BtfError.TheVariants as errors
+use Rattle.std.specs.Borrow.{Bor}
+use Rattle.btf_plain.specs.declared.error.BtfError.{BtfError}
 
 -- the head is the first three words of the bytes, and rest is the bytes after them
 pub record IsHead (order : Endianness) (bytes : List ℕ) (head : Head) (rest : List ℕ) : Type 0 where
@@ -36,3 +39,9 @@ ReadsTail order head k rest (Ok r) =
     × (r ≡ kept k (record_after order head (tail_words k (vlen head.info)) rest))
 ReadsTail order head k rest (Err refusal) =
     (length rest < 4 * tail_words k (vlen head.info)) × (refusal ≡ InvalidTypeInfo)
+
+-- The result is the word that bytes begin with and the bytes after it; it is refused if there are fewer bytes.
+abbrev pub SplitsWord : List ℕ → Endianness → Result (ℕ × Bor (List ℕ)) BtfError → Type 0
+SplitsWord bytes endianness result =
+    MatchResult result (λ x. (4 ≤ length bytes) × (x.0 ≡ word_of endianness (take 4 bytes))
+    × (x.1.now ≡ drop 4 bytes)) (λ e. (length bytes < 4) × (e ≡ errors.InvalidTypeInfo))

@@ -1,8 +1,9 @@
 //! Reading words at the front of bytes, and appending words.
 
-ghost use Rattle.std.specs.Prelude.{◌≡◌, ◌<◌, ◌≤◌, ◌^◌, ◌++◌, length, take, drop, OnOk, MatchResult};
+ghost use Rattle.std.specs.Prelude.{◌≡◌, ◌<◌, ◌^◌, ◌++◌, OnOk};
 ghost use Rattle.std.specs.List.{flat_map, AllByRecursion};
-ghost use Rattle.btf_model.specs.Word.{word, word_of};
+ghost use Rattle.btf_model.specs.Word.{word};
+ghost use Rattle.btf_plain.specs.Head.{SplitsWord};
 
 use crate::error::BtfError;
 use btf_model::Endianness;
@@ -10,10 +11,7 @@ use std::alloc::AllocError;
 
 /// The first word of bytes, and the bytes after it.
 pub fn split_word(bytes: &[u8], endianness: Endianness) -> Result<(u32, &[u8]), BtfError>
-    ensures { MatchResult result
-        (λ x. (4 ≤ length bytes.now) × (x.0 ≡ word_of endianness (take 4 bytes.now))
-        × (x.1.now ≡ drop 4 bytes.now))
-        (λ e. (length bytes.now < 4) × (e ≡ BtfError.InvalidTypeInfo)) }
+    ensures { SplitsWord bytes.now endianness result }
 {
     let Some((word, rest)) = bytes.split_first_chunk::<4>() else {
         return Err(BtfError::InvalidTypeInfo);

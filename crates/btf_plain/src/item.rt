@@ -1,10 +1,10 @@
 //! Lists of items: the code that all kinds with a list share.
 
-ghost use Rattle.std.specs.Prelude.{◌≡◌, ◌⊎◌, ℕ, ◌*◌, ◌<◌, ◌≤◌, ◌^◌, ◌++◌, List, length, take, drop, Ok, OnOk, MatchResult};
+ghost use Rattle.std.specs.Prelude.{◌≡◌, ◌⊎◌, ℕ, ◌<◌, ◌^◌, ◌++◌, List, length, take, Ok, OnOk};
 ghost use Rattle.std.specs.List.{flat_map, AllByRecursion};
-ghost use Rattle.btf_model.specs.Word.{word, words_at};
+ghost use Rattle.btf_model.specs.Word.{word};
 ghost use Rattle.btf_plain.specs.Error.{MeetsOrNoMemory};
-ghost use Rattle.btf_plain.specs.ReadItems.{ReadsItems, padded};
+ghost use Rattle.btf_plain.specs.ReadItems.{ReadsItems, padded, ReadsItem};
 
 use crate::bytes::{push_array, split_word};
 use crate::error::BtfError;
@@ -47,11 +47,7 @@ pub(crate) fn read_item<T: Item>(
     bytes: &[u8],
     endianness: Endianness,
 ) -> Result<(T, &[u8]), BtfError>
-    ensures { MatchResult result
-        (λ x. (4 * T.WIDTH ≤ length bytes.now)
-        × (T.item_words x.0 ≡ words_at endianness T.WIDTH bytes.now)
-        × (x.1.now ≡ drop (4 * T.WIDTH) bytes.now))
-        (λ e. (length bytes.now < 4 * T.WIDTH) × (e ≡ BtfError.InvalidTypeInfo)) }
+    ensures { ReadsItem bytes.now endianness T.WIDTH T.item_words result }
 {
     let (first, rest) = split_word(bytes, endianness)?;
     let (second, rest) = split_word(rest, endianness)?;

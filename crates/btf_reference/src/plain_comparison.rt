@@ -62,12 +62,12 @@ pub fn compare_plainly(
     ensures { IfOk result (λ answer. Lists
         (Plain local.now target.now [] (pair_of pair)) answer starts.old.items starts.new.items) }
 {
-    compared(local, target, &[], pair, starts, MOST_OPEN)
+    compare(local, target, &[], pair, starts, MOST_OPEN)
 }
 
 /// The comparison of a pair; `above` are the open pairs.
 #[cycle(plain)]
-fn compared(
+fn compare(
     local: &Btf,
     target: &Btf,
     above: &[(u32, u32)],
@@ -91,8 +91,8 @@ fn compared(
         return Ok(Ok(false));
     }
     let depth = depth.checked_sub(1).ok_or(Stop::TooDeep)?;
-    let open = opened(*starts.allocator(), pair, above)?;
-    walked(local, target, &open, WALK_LIMIT, pair, starts, depth)
+    let open = open(*starts.allocator(), pair, above)?;
+    walk(local, target, &open, WALK_LIMIT, pair, starts, depth)
 }
 
 /// Whether a pair is one of these.
@@ -112,7 +112,7 @@ fn kinds_agree(local: &Btf, target: &Btf, pair: (u32, u32)) -> Result<bool, BtfE
 }
 
 /// The open pairs with one more pair.
-fn opened(
+fn open(
     alloc: Global,
     pair: (u32, u32),
     above: &[(u32, u32)],
@@ -127,7 +127,7 @@ fn opened(
 
 /// The walk of a pair from this position on; `left` is the number of positions that remain.
 #[cycle(plain)]
-fn walked(
+fn walk(
     local: &Btf,
     target: &Btf,
     above: &[(u32, u32)],
@@ -144,22 +144,22 @@ fn walked(
     if left == 0 {
         return Ok(Err(BtfError::MaximumTypeDepthReached { type_id: at.0 }));
     }
-    match found_at(local, target, at) {
+    match position_at(local, target, at) {
         Position::Decided(answer) => Ok(answer),
-        Position::On(next) => walked(local, target, above, left - 1, next, starts, depth),
+        Position::On(next) => walk(local, target, above, left - 1, next, starts, depth),
         Position::Prototypes(params, others, next) => {
-            let answer = compared_parameters(local, target, above, params, others, starts, depth)?;
+            let answer = compare_parameters(local, target, above, params, others, starts, depth)?;
             if !is_true(&answer) {
                 return Ok(answer);
             }
-            walked(local, target, above, left - 1, next, starts, depth)
+            walk(local, target, above, left - 1, next, starts, depth)
         }
     }
 }
 
 /// The comparison of parameters with others, in order: true, or the first result that is not true.
 #[cycle(plain)]
-fn compared_parameters(
+fn compare_parameters(
     local: &Btf,
     target: &Btf,
     above: &[(u32, u32)],
@@ -179,15 +179,15 @@ fn compared_parameters(
     let Some((other, others)) = others.split_first() else {
         return Ok(Ok(true));
     };
-    let pair = match resolved_pair(local, target, (param.btf_type, other.btf_type)) {
+    let pair = match resolve_pair(local, target, (param.btf_type, other.btf_type)) {
         Ok(pair) => pair,
         Err(e) => return Ok(Err(e)),
     };
-    let answer = compared(local, target, above, pair, starts, depth)?;
+    let answer = compare(local, target, above, pair, starts, depth)?;
     if !is_true(&answer) {
         return Ok(answer);
     }
-    compared_parameters(local, target, above, params, others, starts, depth)
+    compare_parameters(local, target, above, params, others, starts, depth)
 }
 
 /// Whether a result is true.
@@ -198,7 +198,7 @@ fn is_true(answer: &Result<bool, BtfError>) -> bool
 }
 
 /// The ids that a pair resolves to, the local one first.
-fn resolved_pair(local: &Btf, target: &Btf, at: (u32, u32)) -> Result<(u32, u32), BtfError>
+fn resolve_pair(local: &Btf, target: &Btf, at: (u32, u32)) -> Result<(u32, u32), BtfError>
     ensures { Meets pair_of result (ResolvesPair local.now target.now (pair_of at)) }
 {
     let local_id = local.resolve_type(at.0)?;
@@ -207,21 +207,21 @@ fn resolved_pair(local: &Btf, target: &Btf, at: (u32, u32)) -> Result<(u32, u32)
 }
 
 /// Compares a pair of ids. Both are resolved, the local one first.
-fn found_at<'a>(local: &'a Btf, target: &'a Btf, at: (u32, u32)) -> Position<'a>
+fn position_at<'a>(local: &'a Btf, target: &'a Btf, at: (u32, u32)) -> Position<'a>
     ensures { PlainPositionIs result (Finds local.now target.now (pair_of at)) }
 {
-    let (local_id, local_type) = match resolved(local, at.0) {
+    let (local_id, local_type) = match resolve(local, at.0) {
         Ok(found) => found,
         Err(e) => return Position::Decided(Err(e)),
     };
-    match resolved(target, at.1) {
-        Ok((_, target_type)) => found_in(local_id, local_type, target_type),
+    match resolve(target, at.1) {
+        Ok((_, target_type)) => position_in(local_id, local_type, target_type),
         Err(e) => Position::Decided(Err(e)),
     }
 }
 
 /// The id and the type that an id resolves to.
-fn resolved(table: &Btf, type_id: u32) -> Result<(u32, &BtfType), BtfError>
+fn resolve(table: &Btf, type_id: u32) -> Result<(u32, &BtfType), BtfError>
     ensures { Meets (λ found. (found.0, type_kind found.1.now, record_of found.1.now)) result
         (IsResolved table.now type_id) }
 {
@@ -231,7 +231,7 @@ fn resolved(table: &Btf, type_id: u32) -> Result<(u32, &BtfType), BtfError>
 }
 
 /// Compares two types that are no modifiers.
-fn found_in<'a>(local_id: u32, local_type: &'a BtfType, target_type: &'a BtfType) -> Position<'a>
+fn position_in<'a>(local_id: u32, local_type: &'a BtfType, target_type: &'a BtfType) -> Position<'a>
     ensures { PlainPositionIs result (PositionFound local_id (type_kind local_type.now)
         (type_kind target_type.now) (record_of local_type.now) (record_of target_type.now)) }
 {

@@ -16,6 +16,7 @@ use Rattle.btf_relocate.specs.declared.types.Frame.{Frame}
 use Rattle.btf_relocate.specs.declared.types.Progress.{Progress}
 use Rattle.btf_relocate.specs.declared.types.walk.Next.{Next}
 use Rattle.btf_relocate.specs.declared.types.walk.Next.TheVariants as next
+use Rattle.btf_relocate_model.specs.declared.comparison.Pair as pairs
 
 -- ---- pairs
 
@@ -189,3 +190,10 @@ unfoldable pub work : Comparison → Progress → ℕ
 work c p =
     count_new p.pairs (all_pairs (length c.local.records) (length c.target.records)) * pair_steps
     + all_steps_left p.frames.items
+
+-- Whenever a comparison is under way with these open pairs, the result and the progress are those of its next step.
+abbrev pub AdvancesIn : Frame → Option Bool → Comparison → Progress → Progress → Result (Option Bool)
+    RelocationError → Type 0
+AdvancesIn frame answer c old new result =
+    (root : pairs.Pair) → IsUnderWay c root old.pairs (frame ∷ reverse old.frames.items) answer
+    → RunsOn c root new result

@@ -1,3 +1,4 @@
+pub mod Lookup
 pub mod Access
 pub mod Comparing
 pub mod Entries

@@ -1,5 +1,5 @@
 -- Comparisons of two types, step by step, as the definitions see them.
-use Rattle.std.specs.Prelude.{◌≡◌, ◌⊎◌, ℕ, zero, suc, ◌+◌, ◌-◌, nat_lt, if◌then◌else◌, Bool, true, false, List, [], ◌∷◌, drop, map, Option, None, Some, Result, Ok, Err}
+use Rattle.std.specs.Prelude.{◌≡◌, ◌⊎◌, ℕ, zero, suc, ◌+◌, ◌-◌, nat_lt, if◌then◌else◌, Bool, true, false, List, [], ◌∷◌, drop, map, Option, None, Some, Result, Ok, Err, MatchResult, reverse}
 use Rattle.std.specs.Borrow.{Bor}
 use Rattle.std.specs.BTreeSet.{BTreeSet, contains}
 use Rattle.std.specs.List.{list_any}
@@ -7,7 +7,7 @@ use Rattle.std.specs.Str.{bytes_eq}
 use Rattle.std.specs.Cmp.Lexicographic.{slice_cmp}
 use Rattle.std.specs.Ordering.{nat_cmp}
 use Rattle.btf_plain.specs.declared.items.BtfParam.{BtfParam}
-use Rattle.btf_model.specs.Record.{Record, kind_of}
+use Rattle.btf_model.specs.Record.{Record, Kind, kind_of}
 use Rattle.btf_model.specs.Table.{Table}
 use Rattle.btf_relocate_model.specs.Comparison as model
 use Rattle.btf_relocate_model.specs.Comparison.{Comparison, each_parameter, each_member, some_member, resolved_pair, step_at, walked, pair, is_enumeration}
@@ -23,6 +23,10 @@ use Rattle.btf_relocate.specs.declared.types.steps.Step.{Step}
 use Rattle.btf_relocate.specs.declared.types.steps.Step.TheVariants as code
 use Rattle.btf_relocate.specs.declared.types.walk.Next.{Next}
 use Rattle.btf_relocate.specs.declared.types.walk.Next.TheVariants as next
+
+-- a rule for two kinds, at the kinds of two records
+abbrev pub by_kinds : {X : Type 0} → (Option Kind → Option Kind → Record → Record → X) → Record → Record → X
+by_kinds rule one other = rule (kind_of one.info) (kind_of other.info) one other
 
 -- the type of a parameter
 abbrev pub type_of : BtfParam → ℕ
@@ -137,3 +141,19 @@ has_name names name = contains (λ x y. slice_cmp nat_cmp x.now y.now) names nam
 -- a set of these names
 abbrev pub HasNames : BTreeSet (Bor (List ℕ)) → List (List ℕ) → Type 0
 HasNames names all = (name : Bor (List ℕ)) → has_name names name ≡ list_any (bytes_eq name.now) all
+
+-- The result is a set of these names, or the error, or an allocation failed.
+abbrev pub GivesNames : Result (List (List ℕ)) RelocationError → Result (BTreeSet (Bor (List ℕ))) RelocationError
+    → Type 0
+GivesNames expected result =
+    MatchResult result (λ set. (names : List (List ℕ)) × (expected ≡ Ok names) × HasNames set names)
+    (λ e. (e ≡ OutOfMemory) ⊎ (expected ≡ Err e))
+
+-- Under any comparisons and tables, what comes next is what the walk of parameters gives that is resumed in this
+-- frame.
+abbrev pub ResumesParameters : Frame → Option Bool → List BtfParam → List BtfParam → Pair → Next → Type 0
+ResumesParameters frame answer params others returned result =
+    (inner further : Compare) (local target : Table)
+    → next_of inner further local target (model.EachParameter (map type_of params)
+    (map type_of others) returned) result ≡ resumed inner further local target
+    (model.EachParameter (map type_of params) (map type_of others) returned) frame.index frame.other answer

@@ -4,9 +4,9 @@ ghost use Rattle.std.specs.Prelude.{◌≡◌};
 ghost use Rattle.btf_records.specs.BtfType.{record_of};
 ghost use Rattle.btf_relocate_model.specs.Compatible as model;
 
-use crate::lookup::{name_at, resolved_type};
+use crate::lookup::{name_at, resolve_to_type};
 use crate::name::essential_name;
-use crate::target::compared_number;
+use crate::target::comparison_number;
 use btf_records::BtfType;
 use btf_relocate_model::RelocationError;
 use btf_table::{Btf, WALK_LIMIT};
@@ -27,8 +27,8 @@ pub fn are_compatible(
     let mut id = local_id;
     let mut other_id = target_id;
     for _ in 0..WALK_LIMIT {
-        let one = resolved_type(local, id)?;
-        let other = resolved_type(target, other_id)?;
+        let one = resolve_to_type(local, id)?;
+        let other = resolve_to_type(target, other_id)?;
         let (BtfType::Array(array), BtfType::Array(other_array)) = (one, other) else {
             return are_alike(local, one, target, other);
         };
@@ -52,7 +52,7 @@ fn are_alike(
     if one.is_composite() && other.is_composite() {
         return Ok(true);
     }
-    if compared_number(one.kind()) != compared_number(other.kind()) {
+    if comparison_number(one.kind()) != comparison_number(other.kind()) {
         return Ok(false);
     }
     match (one, other) {

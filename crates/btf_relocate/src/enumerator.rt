@@ -7,7 +7,7 @@ ghost use Rattle.btf_relocate_model.specs.Enumerator as model;
 ghost use Rattle.btf_relocate.specs.Enumerators.{enumerator_variant, type_enumerators};
 
 use crate::instruction::sign_extended_32;
-use crate::lookup::{name_at, resolved_type};
+use crate::lookup::{name_at, resolve_to_type};
 use crate::name::essential_name;
 use btf_records::BtfType;
 use btf_relocate_model::RelocationError;
@@ -54,7 +54,7 @@ pub fn enumerator_at(
         (λ p. model.enumerator_at table.now type_id index ≡ Ok (enumerator_variant p.0, p.1.now))
         (λ e. model.enumerator_at table.now type_id index ≡ Err e) }
 {
-    let btf_type = resolved_type(table, type_id)?;
+    let btf_type = resolve_to_type(table, type_id)?;
     let Some(enumerator) = Enumerator::at(btf_type, index as usize) else {
         return Err(RelocationError::BadIndex);
     };
@@ -73,7 +73,7 @@ pub fn find_enumerator(
         (option_map enumerator_variant o))
         (λ e. model.find_enumerator table.now type_id name.now ≡ Err e) }
 {
-    let btf_type = resolved_type(table, type_id)?;
+    let btf_type = resolve_to_type(table, type_id)?;
     for index in 0..count(btf_type) {
         let Some(enumerator) = Enumerator::at(btf_type, index) else {
             return Ok(None);

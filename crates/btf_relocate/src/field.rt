@@ -8,7 +8,7 @@ ghost use Rattle.btf_relocate_model.specs.Field as model;
 ghost use Rattle.btf_relocate.specs.Members.{member_of};
 ghost use Rattle.btf_relocate.specs.Placed.{resolved_placed};
 
-use crate::lookup::{resolved, resolved_type, type_at};
+use crate::lookup::{resolve_id, resolve_to_type, type_at};
 use crate::size::size_of;
 use btf_plain::BtfMember;
 use btf_records::BtfType;
@@ -16,7 +16,7 @@ use btf_relocate_model::{Field, RelocationError};
 use btf_table::Btf;
 
 /// The first bit after a number of bits.
-pub fn moved(bit: u32, by: u64) -> Result<u32, RelocationError>
+pub fn move_bit(bit: u32, by: u64) -> Result<u32, RelocationError>
     ensures { result ≡ model.moved_bit bit by }
 {
     match u64::from(bit).checked_add(by) {
@@ -26,7 +26,7 @@ pub fn moved(bit: u32, by: u64) -> Result<u32, RelocationError>
 }
 
 /// The value at an index of values of the type that an id resolves to, where the first value begins at a bit.
-pub fn placed(
+pub fn place(
     table: &Btf,
     pointer_size: u32,
     type_id: u32,
@@ -35,14 +35,14 @@ pub fn placed(
 ) -> Result<Field, RelocationError>
     ensures { result ≡ resolved_placed pointer_size table.now type_id bit index }
 {
-    let type_id = resolved(table, type_id)?;
+    let type_id = resolve_id(table, type_id)?;
     let size = size_of(table, pointer_size, type_id)?;
     let bytes = u64::from(index) * u64::from(size);
     // The number of bits would exceed 32 bits.
     if bytes >= 0x2000_0000 {
         return Err(RelocationError::BitOffsetTooBig);
     }
-    let bit = moved(bit, bytes * 8)?;
+    let bit = move_bit(bit, bytes * 8)?;
     Ok(Field {
         type_id,
         bit,
@@ -62,7 +62,7 @@ pub fn element(
 ) -> Result<Option<Field>, RelocationError>
     ensures { result ≡ model.element pointer_size table.now field.now index }
 {
-    let id = resolved(table, field.type_id)?;
+    let id = resolve_id(table, field.type_id)?;
     let BtfType::Array(array) = type_at(table, id)? else {
         return Ok(None);
     };
@@ -71,7 +71,7 @@ pub fn element(
     if index >= array.len && !is_flexible {
         return Ok(None);
     }
-    let element = placed(table, pointer_size, array.element_type, field.bit, index)?;
+    let element = place(table, pointer_size, array.element_type, field.bit, index)?;
     Ok(Some(element))
 }
 
@@ -84,7 +84,7 @@ pub fn member(
 ) -> Result<Option<(Field, u32)>, RelocationError>
     ensures { result ≡ model.member table.now field.now index }
 {
-    let btf_type = resolved_type(table, field.type_id)?;
+    let btf_type = resolve_to_type(table, field.type_id)?;
     let members = members(btf_type);
     let index = index as usize;
     if index >= members.len() {
@@ -134,7 +134,7 @@ pub fn member_field(
         (member_of member.now) }
 {
     let (offset, bits) = bits_of(btf_type, member);
-    let first = moved(bit, u64::from(offset))?;
+    let first = move_bit(bit, u64::from(offset))?;
     Ok(Field {
         type_id: member.btf_type,
         bit: first,

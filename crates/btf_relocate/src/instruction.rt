@@ -53,7 +53,7 @@ pub fn patch(
         result }
 {
     let instruction = instruction_at(code, offset, endianness)?;
-    let (patched, instruction) = relocated(endianness, resolved, instruction)?;
+    let (patched, instruction) = patch_by_kind(endianness, resolved, instruction)?;
     let mut bytes = ArrayVec::new();
     match instruction {
         Instruction::Narrow(slot) => add_slot(&mut bytes, &slot, endianness),
@@ -126,7 +126,7 @@ fn size_bits(size: u32) -> Option<u8>
 }
 
 /// An arithmetic instruction with the value as its immediate.
-fn patched_immediate(resolved: &Resolved, slot: Slot) -> Result<(Patched, Slot), RelocationError>
+fn patch_immediate(resolved: &Resolved, slot: Slot) -> Result<(Patched, Slot), RelocationError>
     ensures { result ≡ model.patched_immediate resolved.now slot }
 {
     if slot.opcode / 8 % 2 == 1 {
@@ -144,7 +144,7 @@ fn patched_immediate(resolved: &Resolved, slot: Slot) -> Result<(Patched, Slot),
 }
 
 /// A load or store with the value as its offset, and with the size of the target's field.
-fn patched_offset(resolved: &Resolved, slot: Slot) -> Result<(Patched, Slot), RelocationError>
+fn patch_offset(resolved: &Resolved, slot: Slot) -> Result<(Patched, Slot), RelocationError>
     ensures { result ≡ model.patched_offset resolved.now slot }
 {
     let field = i64::from(slot.offset.cast_signed()).cast_unsigned();
@@ -181,7 +181,7 @@ fn patched_offset(resolved: &Resolved, slot: Slot) -> Result<(Patched, Slot), Re
 }
 
 /// The load of a 64-bit immediate with the value.
-fn patched_wide(
+fn patch_wide(
     order: Endianness,
     resolved: &Resolved,
     first: Slot,
@@ -220,7 +220,7 @@ fn patched_wide(
 }
 
 /// What a relocation makes of an instruction.
-fn relocated(
+fn patch_by_kind(
     order: Endianness,
     resolved: &Resolved,
     instruction: Instruction,
@@ -240,13 +240,13 @@ fn relocated(
         Instruction::Narrow(slot) => {
             let (patched, slot) = match slot.opcode % 8 {
                 0 => return Err(RelocationError::BadLdImm64),
-                1..=3 => patched_offset(resolved, slot)?,
+                1..=3 => patch_offset(resolved, slot)?,
                 5 | 6 => return Err(RelocationError::NotPatchable),
-                _ => patched_immediate(resolved, slot)?,
+                _ => patch_immediate(resolved, slot)?,
             };
             Ok((patched, Instruction::Narrow(slot)))
         }
-        Instruction::Wide(first, second) => patched_wide(order, resolved, first, second),
+        Instruction::Wide(first, second) => patch_wide(order, resolved, first, second),
     }
 }
 

@@ -1,10 +1,9 @@
 //! Lookups in a table, with the errors of a relocation.
 
 ghost use Rattle.std.specs.Prelude.{◌≡◌, Ok, Err, Some, IfSome, MatchResult};
-ghost use Rattle.btf_model.specs.Record.{kind_of};
 ghost use Rattle.btf_plain.specs.Error.{refusal_of};
-ghost use Rattle.btf_records.specs.BtfType.{record_of, type_kind};
 ghost use Rattle.btf_relocate_model.specs.Types as model;
+ghost use Rattle.btf_relocate.specs.Lookup.{GivesType};
 
 use btf_plain::{BtfError, Float};
 use btf_records::BtfType;
@@ -13,10 +12,7 @@ use btf_table::{Btf, name_bytes};
 
 /// The type of an id.
 pub fn type_at(table: &Btf, type_id: u32) -> Result<&BtfType, RelocationError>
-    ensures { MatchResult result
-        (λ t. (model.required_record table.now type_id ≡ Ok (record_of t.now))
-        × (kind_of (record_of t.now).info ≡ Some (type_kind t.now)))
-        (λ e. model.required_record table.now type_id ≡ Err e) }
+    ensures { GivesType (model.required_record table.now type_id) result }
 {
     match table.type_by_id(type_id) {
         Ok(btf_type) => Ok(btf_type),
@@ -38,7 +34,7 @@ fn walk_error(error: &BtfError, type_id: u32) -> RelocationError
 }
 
 /// The id that an id resolves to.
-pub fn resolved(table: &Btf, type_id: u32) -> Result<u32, RelocationError>
+pub fn resolve_id(table: &Btf, type_id: u32) -> Result<u32, RelocationError>
     ensures { result ≡ model.resolved table.now type_id }
 {
     match table.resolve_type(type_id) {
@@ -48,20 +44,16 @@ pub fn resolved(table: &Btf, type_id: u32) -> Result<u32, RelocationError>
 }
 
 /// The type that an id resolves to.
-pub fn resolved_type(table: &Btf, type_id: u32) -> Result<&BtfType, RelocationError>
-    ensures { MatchResult result
-        (λ t. (model.resolved_record table.now type_id ≡ Ok (record_of t.now))
-        × (kind_of (record_of t.now).info ≡ Some (type_kind t.now)))
-        (λ e. model.resolved_record table.now type_id ≡ Err e) }
+pub fn resolve_to_type(table: &Btf, type_id: u32) -> Result<&BtfType, RelocationError>
+    ensures { GivesType (model.resolved_record table.now type_id) result }
 {
-    let id = resolved(table, type_id)?;
+    let id = resolve_id(table, type_id)?;
     type_at(table, id)
 }
 
 /// The bytes of a name that is needed, which need not be UTF-8.
 pub fn name_at(table: &Btf, offset: u32) -> Result<&[u8], RelocationError>
-    ensures { MatchResult result
-        (λ b. model.name_at table.now offset ≡ Ok b.now)
+    ensures { MatchResult result (λ b. model.name_at table.now offset ≡ Ok b.now)
         (λ e. model.name_at table.now offset ≡ Err e) }
 {
     // `name_bytes` reads the name of a type, so ask for the name of one that has this offset.

@@ -10,7 +10,7 @@ ghost use Rattle.btf_relocate.specs.Paths.{step_of};
 ghost use Rattle.btf_relocate.specs.Searching.{found_of, levels_of};
 
 use crate::compatible::are_compatible;
-use crate::field::{element, moved, placed};
+use crate::field::{element, move_bit, place};
 use crate::path::{Accessor, Path};
 use crate::search::{Found, find_member};
 use crate::target::Target;
@@ -45,7 +45,7 @@ pub fn matching_field(
     let [Accessor::Element(first), rest @ ..] = accessors else {
         return Ok(None);
     };
-    let field = placed(target.table(), target.pointer_size(), candidate, 0, *first)?;
+    let field = place(target.table(), target.pointer_size(), candidate, 0, *first)?;
     let mut at = Reached { field, count: 1 };
     for accessor in rest {
         match matching_step(alloc, local, target, &at, accessor)? {
@@ -87,7 +87,7 @@ fn matching_step(
             let Found::Member(field, count) = found else {
                 return Ok(None);
             };
-            let bit = moved(at.field.bit, u64::from(field.bit))?;
+            let bit = move_bit(at.field.bit, u64::from(field.bit))?;
             if !are_compatible(local, *type_id, target.table(), field.type_id)? {
                 return Ok(None);
             }

@@ -10,7 +10,7 @@ ghost use Rattle.btf_relocate.specs.Modules.{HasResolvedAmong, answers_view, can
 ghost use Rattle.btf_relocate.specs.Resolving.{subject_view};
 
 use crate::resolving::{
-    Question, answers, expected_of, local_id, question_of, resolve, resolved_by, validates,
+    Question, answers, expected_of, local_id, question_of, resolve, resolve_by, validates,
 };
 use crate::section::candidates_of;
 use crate::target::Target;
@@ -61,12 +61,12 @@ pub fn candidates_among<'a, 't>(
     if !ids.is_empty() || targets.modules.is_empty() {
         return Ok(Candidates::InKernel(ids));
     }
-    let found = found_in(alloc, local, targets.modules, type_id)?;
+    let found = find_in(alloc, local, targets.modules, type_id)?;
     Ok(Candidates::InModules(found))
 }
 
 /// The candidates of a type of the program's table in each of these tables.
-fn found_in<'a, 't>(
+fn find_in<'a, 't>(
     alloc: Global,
     local: &Btf,
     targets: &'a [Target<'t>],
@@ -126,7 +126,7 @@ fn resolve_in_modules<'a, 't>(
     let (answer, matching) = answers_among(alloc, local, &question, found.as_slice())?;
     let validates = validates(question.kind, &question.subject);
     let target = first_table(kernel.table(), &matching);
-    let resolved = resolved_by(local, target, question.kind, validates, &expected, answer);
+    let resolved = resolve_by(local, target, question.kind, validates, &expected, answer);
     if answer.is_some() {
         *found = matching;
     }

@@ -6,7 +6,7 @@ ghost use Rattle.btf_relocate.specs.Gives.{GivesBy};
 ghost use Rattle.btf_relocate.specs.Paths.{place_of, model_path};
 
 use crate::access::Access;
-use crate::field::{element, member, placed};
+use crate::field::{element, member, place};
 use crate::lookup::name_at;
 use btf_relocate_model::{Field, RelocationError};
 use btf_table::Btf;
@@ -56,7 +56,7 @@ impl<'t> Path<'t> {
         if indices.is_empty() {
             return Err(RelocationError::BadAccess);
         }
-        let mut field = placed(table, LOCAL_POINTER_SIZE, type_id, 0, indices[0])?;
+        let mut field = place(table, LOCAL_POINTER_SIZE, type_id, 0, indices[0])?;
         let mut accessors = Vec::with_capacity(alloc, indices.len())?;
         accessors.push(Accessor::Element(indices[0]))?;
         let mut is_step = true;

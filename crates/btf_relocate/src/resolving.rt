@@ -79,7 +79,7 @@ pub fn resolve(
         *candidates = matching;
     }
     let validates = validates(question.kind, &question.subject);
-    Ok(resolved_by(
+    Ok(resolve_by(
         local,
         target.table(),
         question.kind,
@@ -272,7 +272,7 @@ pub fn answers(
 }
 
 /// What is written for the answer of the candidates, or if there is none.
-pub fn resolved_by(
+pub fn resolve_by(
     local: &Btf,
     target: &Btf,
     kind: RelocationKind,

@@ -7,8 +7,8 @@ ghost use Rattle.btf_relocate_model.specs.Search as model;
 ghost use Rattle.btf_relocate.specs.Gives.{Gives, GivesBy};
 ghost use Rattle.btf_relocate.specs.Searching.{within, from_id, found_of, levels_of, Remembers};
 
-use crate::field::{bits_of, member_field, members, moved};
-use crate::lookup::{name_or_none, resolved, type_at};
+use crate::field::{bits_of, member_field, members, move_bit};
+use crate::lookup::{name_or_none, resolve_id, type_at};
 use btf_records::BtfType;
 use btf_relocate_model::{Field, RelocationError};
 use btf_table::Btf;
@@ -58,7 +58,7 @@ fn search(
     ensures small { IfOk result (λ f. levels_of f ≤ depth) }
     ensures remembers { OnOk result (Remembers table.now name.now searched.new) }
 {
-    let end = resolved(table, type_id)?;
+    let end = resolve_id(table, type_id)?;
     let btf_type = type_at(table, end)?;
     if let Some(levels) = searched.get(&end).copied() {
         if levels > depth {
@@ -101,7 +101,7 @@ fn search_members(
             match search(table, name, searched, member.btf_type, depth - 1)? {
                 Found::Member(field, count) => {
                     let (offset, _) = bits_of(btf_type, member);
-                    let bit = moved(offset, u64::from(field.bit))?;
+                    let bit = move_bit(offset, u64::from(field.bit))?;
                     return Ok(Found::Member(Field { bit, ..field }, count + 1));
                 }
                 Found::Nothing(inner) => levels = levels.max(inner + 1),

@@ -59,7 +59,7 @@ impl TargetIndex {
         ensures indexed { IfOk result (λ index. IndexesTable table.now index) }
         ensures only { IfErr result (λ e. e ≡ OutOfMemory) }
     {
-        let mut entries = named_types(alloc, table)?;
+        let mut entries = types_with_name(alloc, table)?;
         entries.sort_by_key(|entry| (entry.name, entry.kind))?;
         let mut ids = Vec::with_capacity(alloc, entries.len())?;
         for entry in &entries {
@@ -77,7 +77,7 @@ impl TargetIndex {
         ensures { result.now ≡ candidates table.now name.now (kind_code kind) }
     {
         let name = essential_name(name);
-        let kind = compared_number(kind);
+        let kind = comparison_number(kind);
         let ids = self.ids.as_slice();
         let start = ids.partition_point(|id| compare(table, *id, name, kind).is_lt());
         let end = ids.partition_point(|id| compare(table, *id, name, kind).is_le());
@@ -187,14 +187,14 @@ fn key_of(table: &Btf, type_id: u32) -> (&[u8], u32)
     match table.type_by_id(type_id) {
         Ok(btf_type) => (
             essential_name(name_or_none(table, btf_type.name_offset())),
-            compared_number(btf_type.kind()),
+            comparison_number(btf_type.kind()),
         ),
         Err(_) => (&[], 0),
     }
 }
 
 /// The number of a kind when kinds are compared: ENUM64 counts as ENUM.
-pub fn compared_number(kind: BtfKind) -> u32
+pub fn comparison_number(kind: BtfKind) -> u32
     ensures code { result ≡ compared_number (kind_code kind) }
     ensures word { (info : ℕ) → kind_of info ≡ Some (kinds.kind kind)
         → result ≡ compared_number (kind_number info) }
@@ -206,7 +206,7 @@ pub fn compared_number(kind: BtfKind) -> u32
 }
 
 /// The types that have a name, in rising order of their ids.
-fn named_types(alloc: Global, table: &Btf) -> Result<Vec<Entry<'_>>, AllocError>
+fn types_with_name(alloc: Global, table: &Btf) -> Result<Vec<Entry<'_>>, AllocError>
     ensures { IfOk result (λ entries. AreEntries table.now entries.items (ids_with_name table.now)) }
 {
     let mut entries = Vec::with_capacity(alloc, type_count(table) as usize)?;

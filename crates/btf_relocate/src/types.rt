@@ -1,9 +1,8 @@
 //! Comparisons of two types, each in its own table.
 
-ghost use Rattle.std.specs.Prelude.{◌≡◌, ◌+◌, ◌<◌, ◌∷◌, reverse, OnOk};
+ghost use Rattle.std.specs.Prelude.{◌+◌, ◌<◌, OnOk};
 ghost use Rattle.btf_relocate_model.specs.Comparison as model;
-ghost use Rattle.btf_relocate_model.specs.declared.comparison.Pair as pairs;
-ghost use Rattle.btf_relocate.specs.Comparing.{IsAsked, IsUnderWay, RunsOn, steps_left, work};
+ghost use Rattle.btf_relocate.specs.Comparing.{IsAsked, steps_left, work, AdvancesIn};
 ghost use Rattle.btf_relocate.specs.Gives.{Gives};
 ghost use Rattle.btf_relocate.specs.Steps.{comparison};
 
@@ -15,7 +14,7 @@ use btf_relocate_model::{Pair, RelocationError, Rule};
 use btf_table::{Btf, WALK_LIMIT};
 use std::alloc::Global;
 use std::collections::BTreeMap;
-use walk::{Next, next_step, resolved_pair};
+use walk::{Next, next_step, resolve_pair};
 
 /// A comparison that has begun: the walk over pointees, elements and return types from a pair on.
 #[derive(Clone, Copy, Debug)]
@@ -82,9 +81,8 @@ fn advance(
     frame: &Frame,
     answer: Option<bool>,
 ) -> Result<Option<bool>, RelocationError>
-    ensures runs { (root : pairs.Pair) → IsUnderWay (comparison rule local.now target.now) root
-        progress.old.pairs (frame.now ∷ reverse progress.old.frames.items) answer
-        → RunsOn (comparison rule local.now target.now) root progress.new result }
+    ensures runs { AdvancesIn frame.now answer
+        (comparison rule local.now target.now) progress.old progress.new result }
     ensures fewer { OnOk result (work (comparison rule local.now target.now) progress.new
         < work (comparison rule local.now target.now) progress.old + steps_left frame.now) }
 {
@@ -129,7 +127,7 @@ fn ask(
     ensures { IsAsked (comparison rule local.now target.now) pair.now progress.old progress.new
         result }
 {
-    let start = resolved_pair(rule, local, target, pair)?;
+    let start = resolve_pair(rule, local, target, pair)?;
     match progress.pairs.get(&start).copied() {
         Some(Some(is_alike)) => Ok(Some(is_alike)),
         Some(None) => Err(RelocationError::MaximumTypeDepthReached {

@@ -5,7 +5,7 @@ ghost use Rattle.btf_model.specs.Record.{kind_of};
 ghost use Rattle.btf_records.specs.BtfType.{record_of};
 ghost use Rattle.btf_relocate_model.specs.Value as model;
 
-use crate::lookup::{resolved, type_at};
+use crate::lookup::{resolve_id, type_at};
 use crate::size::size_of;
 use btf_model::Endianness;
 use btf_records::BtfType;
@@ -38,7 +38,7 @@ pub fn field_value(
     if !field.is_member {
         return element_value(table, pointer_size, kind, field);
     }
-    let id = resolved(table, field.type_id)?;
+    let id = resolve_id(table, field.type_id)?;
     // A member without a size is refused for all of these kinds.
     let load = load_of(table, pointer_size, field, id)?;
     member_value(table, kind, field, id, &load)

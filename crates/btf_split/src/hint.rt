@@ -1,13 +1,10 @@
 //! Whether a blob looks like a split table.
 
-ghost use Rattle.std.specs.Prelude.{◌≡◌, ◌++◌, ◌↔◌, ◌<◌, ◌^◌, List, ℕ, IsTrue, MatchOption, length};
+ghost use Rattle.std.specs.Prelude.{◌≡◌, ◌↔◌, ◌<◌, ◌^◌, IsTrue, length};
 ghost use Rattle.btf_model.specs.Record as model;
-ghost use Rattle.btf_model.specs.Record.{Record};
-ghost use Rattle.btf_model.specs.Spelling.{IsRecord};
-ghost use Rattle.btf_model.specs.Blob.{BeginsNoRecord};
 ghost use Rattle.btf_split_model.specs.Hint.{LooksSplit, NamesBeyond, hint_records};
 ghost use Rattle.btf_plain.specs.Kind as kinds;
-ghost use Rattle.btf_split.specs.Hint.{kept_name};
+ghost use Rattle.btf_split.specs.Hint.{kept_name, FindsFirstName};
 
 use crate::blob::{has_sections, sections_of};
 use btf_plain::{BtfKind, Endianness, Head};
@@ -51,9 +48,7 @@ fn has_name_beyond(types: &[u8], limit: usize, endianness: Endianness) -> bool
 /// The string offset of the name of the record at the front of the bytes, and the bytes after the record. None if there
 /// is no record.
 fn first_name(bytes: &[u8], endianness: Endianness) -> Option<(u32, &[u8])>
-    ensures { MatchOption result (BeginsNoRecord endianness bytes.now)
-        (λ p. (front : List ℕ) × (r : Record) × (bytes.now ≡ front ++ p.1.now)
-        × IsRecord endianness front r × (p.0 ≡ r.name)) }
+    ensures { FindsFirstName bytes.now endianness result }
 {
     let Ok((head, tail)) = Head::read(bytes, endianness) else {
         return None;

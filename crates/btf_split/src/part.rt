@@ -1,9 +1,9 @@
 //! Writing the part of a table above a base.
 
-ghost use Rattle.std.specs.Prelude.{◌≡◌, length, IfOk};
-ghost use Rattle.btf_model.specs.Table.{Table, strip};
-ghost use Rattle.btf_split_model.specs.Split.{Extends, IsJoined, split_blob};
+ghost use Rattle.std.specs.Prelude.{IfOk};
+ghost use Rattle.btf_split_model.specs.Split.{split_blob};
 ghost use Rattle.btf_plain.specs.Error.{IsOrNoMemory};
+ghost use Rattle.btf_split.specs.Blob.{JoinsAgain};
 
 use crate::blob::{HEADER_LEN, append_header, sections_of};
 use crate::joining::check_base;
@@ -22,9 +22,7 @@ pub fn split_bytes(table: &Btf, base_types: u32, base_strings: u32) -> Result<Ve
         (split_blob base_types base_strings table.now) }
     // Over any base that the table begins with, the bytes are parsed as the table again, except for retained 64-bit
     // enum values.
-    ensures joins_again { IfOk result (λ v. (base : Table) → Extends base table.now
-        → length base.records ≡ base_types → length base.strings ≡ base_strings
-        → IsJoined table.now.order base v.items (strip table.now)) }
+    ensures joins_again { IfOk result (λ v. JoinsAgain table.now base_types base_strings v.items) }
 {
     check_base(table, base_types, base_strings)?;
     let blob = table.to_bytes()?;

@@ -1,12 +1,14 @@
 -- What changes append to a table. The changes are stored apart from the table.
-use Rattle.std.specs.Prelude.{◌≡◌, ℕ, ◌+◌, ◌*◌, ◌≤◌, List, ◌++◌, length, map}
+use Rattle.std.specs.Prelude.{◌≡◌, ℕ, ◌+◌, ◌*◌, ◌≤◌, List, ◌++◌, length, map, Result}
 use Rattle.std.specs.List.{flat_map, sum_by}
 use Rattle.btf_model.specs.Record.{Record}
 use Rattle.btf_model.specs.Table.{Table, section_limit, no_fallbacks}
-use Rattle.btf_rewrite_model.specs.Checks.{record_len}
+use Rattle.btf_rewrite_model.specs.Checks.{record_len, has_room}
 use Rattle.btf_rewrite_model.specs.Rewritten.{with_zero_byte}
 use Rattle.btf_records.specs.BtfType.{record_of, fallback_of}
 use Rattle.btf_table.specs.declared.table.changes.Changes.{Changes}
+use Rattle.btf_model.specs.Refusal.{Refusal}
+use Rattle.btf_table.specs.Checked.{checked}
 
 -- the offset of the next text
 abbrev pub next_string_offset : Table → Changes → ℕ
@@ -30,3 +32,7 @@ pub record Adds (t : Table) (old new : Changes) (ts : List (List ℕ)) (rs : Lis
   pub types : new.types ≡ old.types
   pub type_len : new.type_len ≡ old.type_len + sum_by record_len rs
   pub room : HasRoom t new
+
+-- The string offset of a text that is appended next, or why it does not fit.
+abbrev pub text_place : Changes → Table → List ℕ → Result ℕ Refusal
+text_place own btf text = checked (has_room (next_string_offset btf own) text) (next_string_offset btf own)

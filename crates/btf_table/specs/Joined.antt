@@ -1,5 +1,5 @@
 -- A table after another one. What this means for the types of a kernel module is in `btf_split_model`.
-use Rattle.std.specs.Prelude.{◌≡◌, ◌<◌, ◌≤◌, ◌++◌, length, drop, Result, Ok, Err}
+use Rattle.std.specs.Prelude.{◌≡◌, ◌<◌, ◌≤◌, ◌++◌, length, drop, Result, Ok, Err, take, ℕ}
 use Rattle.btf_model.specs.Refusal.{Refusal, InvalidHeader, InvalidTypeInfo}
 use Rattle.btf_model.specs.Table.{Table, no_fallbacks, type_bytes, section_limit}
 
@@ -30,3 +30,13 @@ pub record ExceedsLimit (t : Table) (refusal : Refusal) : Type 0 where
 abbrev pub Fits : {X : Type 0} → Table → (X → Type 0) → Result X Refusal → Type 0
 Fits t P (Ok x) = P x × IsWithinLimit t
 Fits t P (Err refusal) = ExceedsLimit t refusal
+
+-- The table keeps these numbers of string bytes and types, and nothing else changes.
+abbrev pub CutsTable : Table → Table → ℕ → ℕ → Type 0
+CutsTable old_table new_table types strings =
+    new_table ≡ record old_table {
+      strings = take strings old_table.strings;
+      records = take types
+          old_table.records;
+      fallbacks = take types old_table.fallbacks;
+    }

@@ -1,7 +1,7 @@
 -- What the data structures of the step of `.ksyms` represent.
-use Rattle.std.specs.Prelude.{◌≡◌, ℕ, ◌*◌, ◌==◌, ◌&&◌, Bool, false, if◌then◌else◌, List, length, map, take, Option, Some, None, Result, Ok, Err}
+use Rattle.std.specs.Prelude.{◌≡◌, ℕ, ◌*◌, ◌==◌, ◌&&◌, Bool, false, if◌then◌else◌, List, length, map, take, Option, Some, None, Result, Ok, Err, IfOk}
 use Rattle.std.specs.List.{list_any, flat_map, range_with_len}
-use Rattle.std.specs.Option.{option_map}
+use Rattle.std.specs.Option.{option_map, unwrap_or}
 use Rattle.std.specs.Ordering.{nat_cmp}
 use Rattle.std.specs.BTreeSet as ordered
 use Rattle.std.specs.BTreeSet.{BTreeSet}
@@ -20,6 +20,11 @@ use Rattle.btf_table.specs.declared.table.changes.Changes.{Changes}
 use Rattle.btf_table.specs.declared.sanitize.ksyms.Step.{Step}
 use Rattle.btf_table.specs.declared.sanitize.ksyms.Target.{Target}
 use Rattle.btf_table.specs.declared.sanitize.ksyms.Symbols.{Symbols}
+use Rattle.btf_table.specs.Checked.{checked}
+use Rattle.btf_rewrite_model.specs.Ksyms as model
+use Rattle.btf_plain.specs.declared.error.BtfError.{BtfError}
+use Rattle.btf_plain.specs.Error.{IsOrNoMemory}
+use Rattle.btf_records.specs.declared.btf_type.BtfType.TheVariants as types
 
 -- the ids of `.ksyms`, from two arguments of a call
 abbrev pub ksyms_ids : ℕ → Option ℕ → KsymsIds
@@ -112,3 +117,35 @@ StepsAll t ids (Err refusal) = ⊥
 abbrev pub MakesKsyms : Table → KsymsIds → Result Changes Refusal → Type 0
 MakesKsyms t ids (Ok changes) = (ksyms_fault t ids ≡ None) × AreChangesOf t changes × (changed t changes ≡ ksyms_table t ids)
 MakesKsyms t ids (Err refusal) = ksyms_fault t ids ≡ Some refusal
+
+-- The prototype of an entry of `.ksyms` that is a FUNC, or why the entry is refused.
+abbrev pub symbol_prototype_of : Entry → Table → ℕ → Option ℕ → Result (Option ℕ) Refusal
+symbol_prototype_of e btf id placeholder_id =
+    checked (first_fault (ksyms_entry_checks btf placeholder_id e)) (prototype_of btf id)
+
+-- Whenever the target is that of a table and a placeholder, the result is the prototype whose parameters have the
+-- names that `.ksyms` gives them.
+abbrev pub HasSymbolNames : Target → Record → Result (Option BtfType) BtfError → Type 0
+HasSymbolNames own proto result =
+    (t : Table) (placeholder : Option ℕ) → own ≡ symbol_target t placeholder
+    → IsOrNoMemory (λ new. record_of (unwrap_or new (types.FuncProto proto))) result
+    (Ok (record proto { tail = model.with_names t placeholder proto.tail }))
+
+-- The result has as many words as the DATASEC.
+abbrev pub IsLaidOutLike : Target → Table → Record → Result Record BtfError → Type 0
+IsLaidOutLike own btf data_sec result =
+    (placeholder : Option ℕ) → own ≡ symbol_target btf placeholder
+    → IfOk result (λ s. IsLike (types.DataSec data_sec) (types.DataSec s))
+
+-- The result is the DATASEC of `.ksyms` with its entries one after another.
+abbrev pub IsLaidOut : Target → Table → Record → Result Record BtfError → Type 0
+IsLaidOut own btf data_sec result =
+    (placeholder : Option ℕ) → own ≡ symbol_target btf placeholder
+    → IsOrNoMemory (λ s. s) result (Ok (laid_out_anew btf placeholder data_sec))
+
+-- The result is what the step makes of the type of an id.
+abbrev pub MakesType : Step → Table → ℕ → BtfType → Result (Option BtfType) BtfError → Type 0
+MakesType own btf id btf_type result =
+    (ids : KsymsIds) → IsStep btf ids own
+    → IsOrNoMemory (λ new. record_of (unwrap_or new btf_type)) result
+    (Ok (step_record btf ids id (record_of btf_type)))

@@ -27,7 +27,7 @@ ghost use Rattle.btf_table.specs.Rewrites.{rewrite_of, pass_for, Rewrites, Rewri
 
 pub use crate::sanitize::data_sec::known_offset;
 pub use crate::sanitize::features::BtfFeatureResolver;
-use crate::sanitize::features::copied_answers;
+use crate::sanitize::features::copy_answers;
 pub use crate::sanitize::in_place::deny;
 pub use crate::sanitize::ksyms::int_of_4;
 use crate::sanitize::ksyms::ksyms_changes;
@@ -94,7 +94,7 @@ impl Btf {
         ensures err { OnErr result (self.new ≡ self.old) }
     {
         let passed = pass_changes(self, request, resolver)?;
-        let answers = copied_answers(resolver)?;
+        let answers = copy_answers(resolver)?;
         self.apply(passed.changes)?;
         self.deny_types(&passed.denied);
         Ok(answers)

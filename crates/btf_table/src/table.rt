@@ -9,9 +9,9 @@ mod text;
 mod types;
 mod walk;
 
-ghost use Rattle.std.specs.Prelude.{◌≡◌, ℕ, List, ◌+◌, ◌*◌, ◌≤◌, ◌↔◌, [], ◌∷◌, map, IsTrue, IfOk, OnOk, OnErr, MatchResult, Ok, Err, Some, slice_get, set, length, take, drop, ◌<◌, ◌^◌};
+ghost use Rattle.std.specs.Prelude.{◌≡◌, ℕ, List, ◌+◌, ◌*◌, ◌≤◌, ◌↔◌, [], ◌∷◌, map, IsTrue, IfOk, OnOk, OnErr, MatchResult, Ok, Err, Some, length, take, drop, ◌<◌, ◌^◌};
 ghost use Rattle.std.specs.Slice.Iter.{iter_rest};
-ghost use Rattle.btf_model.specs.Record.{Record, unknown, kind_of};
+ghost use Rattle.btf_model.specs.Record.{Record, unknown};
 ghost use Rattle.btf_model.specs.Refusal.{Refusal};
 ghost use Rattle.btf_model.specs.Table.{Table, empty_table, strip, type_bytes, with_string, with_type, string_place, type_place};
 ghost use Rattle.btf_model.specs.Fields.{HaveKinds};
@@ -21,17 +21,18 @@ ghost use Rattle.btf_model.specs.Text.{FindsName};
 ghost use Rattle.btf_model.specs.Walk.{Resolves, HasSize};
 ghost use Rattle.btf_plain.specs.Error.{MeetsOrNoMemory, IsOrNoMemory, Meets};
 ghost use Rattle.btf_plain.specs.Kind as kinds;
-ghost use Rattle.btf_records.specs.BtfType.{record_of, fallback_of, type_kind};
+ghost use Rattle.btf_records.specs.BtfType.{record_of, fallback_of};
 ghost use Rattle.btf_table.specs.Btf.{IsType, HasShapeOf};
 ghost use Rattle.btf_table.specs.BtfStr.{text_bytes, HasName};
 ghost use Rattle.btf_model.specs.Text.{text_at};
 ghost use Rattle.btf_rewrite_model.specs.Checks.{name_is_read};
 ghost use Rattle.btf_table.specs.Checked.{checked};
-ghost use Rattle.btf_table.specs.Readable.{IsReadableEnd, IsComparable};
+ghost use Rattle.btf_table.specs.Readable.{IsReadableEnd, IsComparable, ReadsWithoutMemory};
 ghost use Rattle.std.specs.Prelude.{IfSome, string_bytes};
 ghost use Rattle.std.specs.Option.{option_map};
 ghost use Rattle.std.specs.Result.{result_ok};
 ghost use Rattle.std.specs.Str.{IsUtf8};
+ghost use Rattle.btf_table.specs.Records.{SetsType};
 
 pub(crate) use crate::table::changes::Changes;
 use crate::table::header::{HEADER_LEN, Header, section};
@@ -186,8 +187,7 @@ impl Btf {
     #[inline(always)]
     pub fn string_at(&self, offset: u32) -> Result<BtfStr<'_>, BtfError>
         ensures text { IsOrNoMemory text_bytes result (model.text_at self.now.strings offset) }
-        ensures no_memory { IfSome (model.bytes_at self.now.strings offset) IsUtf8
-            → Meets text_bytes result (λ answer. answer ≡ model.text_at self.now.strings offset) }
+        ensures no_memory { ReadsWithoutMemory self.now.strings offset result }
     {
         text_at(*self.strings.allocator(), &self.strings, offset)
     }
@@ -196,10 +196,8 @@ impl Btf {
     pub fn type_name(&self, btf_type: &BtfType) -> Result<BtfStr<'_>, BtfError>
         ensures text { IsOrNoMemory text_bytes result
             (model.text_at self.now.strings (record_of btf_type.now).name) }
-        ensures no_memory { IfSome (model.bytes_at self.now.strings
-            (record_of btf_type.now).name) IsUtf8
-            → Meets text_bytes result
-            (λ answer. answer ≡ model.text_at self.now.strings (record_of btf_type.now).name) }
+        ensures no_memory { ReadsWithoutMemory self.now.strings
+            (record_of btf_type.now).name result }
     {
         self.string_at(btf_type.name_offset())
     }
@@ -407,10 +405,7 @@ pub fn type_count(table: &Btf) -> u32
 /// memory.
 pub fn set_type(table: &mut Btf, type_id: u32, btf_type: BtfType)
     requires { HasShapeOf table.old type_id (record_of btf_type) }
-    ensures { table.new ≡ record table.old {
-      records = set table.old.records type_id (record_of btf_type);
-      fallbacks = set table.old.fallbacks type_id (fallback_of btf_type);
-    } }
+    ensures { SetsType table.old table.new type_id btf_type }
 {
     // The contract is about the kind in the info word, which this shows.
     let _ = btf_type.kind();

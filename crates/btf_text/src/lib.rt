@@ -4,7 +4,6 @@
 //! Each call writes to any `std::fmt::Write`. `TextBuffer` implements it over a writer of bytes.
 #![tactic(auto)]
 
-mod buffer;
 mod dump;
 mod error;
 mod ext;
@@ -12,9 +11,9 @@ mod header;
 mod layout;
 mod word;
 
-pub use buffer::TextBuffer;
 pub use dump::{Selection, kind_name, write_dump, write_type_line};
 pub use error::TextError;
 pub use ext::write_ext;
 pub use header::{HeaderTypes, write_header};
 pub use layout::{find_layout, write_layout};
+pub use text_buffer::TextBuffer;

@@ -86,7 +86,7 @@ impl From<Ending> for Answer {
 /// instruction, and 141 if the reader of standard output closed it.
 pub fn carry_out(rt: &HostRuntime, request: &Request<'_>) -> ExitCode {
     let mut out = Output::new(rt);
-    match carried_out(rt, request, &mut out) {
+    match answer_request(rt, request, &mut out) {
         Ok(Answer::Yes) => ExitCode::SUCCESS,
         Ok(Answer::No) => ExitCode::FAILURE,
         Ok(Answer::Poisoned) => ExitCode::from(POISONED),
@@ -110,7 +110,7 @@ fn report(rt: &HostRuntime, failure: &Failure<'_>, output: Option<ErrorKind>) ->
 }
 
 /// Carries out a request.
-fn carried_out<'a>(
+fn answer_request<'a>(
     rt: &HostRuntime,
     request: &Request<'a>,
     out: &mut Output<'_>,
@@ -271,7 +271,7 @@ pub fn blame<'a, T>(file: &'a str, outcome: Result<T, Fault>) -> Result<T, Failu
 }
 
 /// The bytes of a rewritten file, or of its table alone.
-fn sanitized<'a>(
+fn sanitize_file<'a>(
     rt: &HostRuntime,
     file: &'a str,
     rewrite: &Rewrite<'_>,
@@ -309,7 +309,7 @@ fn write_sanitized<'a>(
     is_table_only: bool,
     out: &mut Output<'_>,
 ) -> Result<(), Failure<'a>> {
-    let written = sanitized(rt, file, rewrite, is_table_only)?;
+    let written = sanitize_file(rt, file, rewrite, is_table_only)?;
     write(rt, output, &written, out)
 }
 

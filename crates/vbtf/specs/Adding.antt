@@ -3,13 +3,14 @@ use Rattle.std.specs.Prelude.{◌≡◌, ◌≢◌, ◌⊎◌, ℕ, List, length
 use Rattle.btf_model.specs.Blob.{ReadsFront}
 use Rattle.btf_model.specs.Record.{Record}
 use Rattle.btf_model.specs.Refusal.{Refusal}
-use Rattle.btf_model.specs.Table.{Table, with_type, type_place}
+use Rattle.btf_model.specs.Table.{Table, with_type, type_place, string_place, with_string}
 use Rattle.btf_model.specs.declared.endianness.Endianness.{Endianness}
 use Rattle.btf_rewrite_model.specs.Checks.{record_len}
 use Rattle.vbtf.specs.declared.fault.Fault.{Fault}
 use Rattle.vbtf.specs.declared.handle.Handle.{Handle}
 use Rattle.vbtf.specs.Changed.{ChangedTo}
 use Rattle.vbtf.specs.Status.{ReportsRefusal, ReportsNoMemory, Fails}
+use Rattle.std.specs.Str.{IsUtf8}
 
 -- The outcomes of a call that adds to the table of a handle: status 0 and the position, and the handle owns the new
 -- table; or an error or a failed allocation, and the handle owns the unchanged table. No index is open then.
@@ -42,3 +43,10 @@ EndsAddingType status order bytes old new id fault =
     ⊎ (ReportsNoMemory status fault × (new.opened.btf ≡ old.opened.btf))
     ⊎ ((refusal : Refusal) × ReportsRefusal status fault refusal
     × AddsRecord order bytes old.opened.btf new.opened.btf (Err refusal)))
+
+-- For a table that the handle owns, and a text that is UTF-8, the call ends with the text added.
+abbrev pub EndsAddingText : Handle → Handle → List ℕ → ℕ → Fault → ℕ → Type 0
+EndsAddingText old_table new_table text offset fault result =
+    old_table.state ≡ 1 → IsUtf8 text
+    → EndsAdding result old_table new_table offset fault (string_place text old_table.opened.btf)
+    (with_string text old_table.opened.btf)

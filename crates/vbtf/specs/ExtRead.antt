@@ -1,11 +1,15 @@
 -- The parts of a .BTF.ext that C reads.
-use Rattle.std.specs.Prelude.{◌≡◌, ℕ, zero, suc, List, [], ◌∷◌, ◌++◌, Option, Some, None, unwrap_or, Result, Ok, Err}
+use Rattle.std.specs.Prelude.{◌≡◌, ℕ, zero, suc, List, [], ◌∷◌, ◌++◌, Option, Some, None, unwrap_or, Result, Ok, Err, ◌≤◌}
 use Rattle.std.specs.List.{flat_map}
 use Rattle.btf_ext.specs.BtfExt.{ext as said}
 use Rattle.btf_model.specs.Ext.{Records, little_bytes, no_records}
 use Rattle.btf_model.specs.Refusal.{Refusal}
 use Rattle.btf_model.specs.RelocationWords.{RelocationSection, Words}
 use Rattle.vbtf.specs.Ext.{OpenedExt, AreNames}
+use Rattle.vbtf.specs.Status.{EndsFilling}
+use Rattle.vbtf.specs.declared.fault.Fault.{Fault}
+use Rattle.vbtf.specs.declared.handle.Handle.{Handle}
+use Rattle.std.specs.Str.{IsUtf8}
 
 -- texts, each with a zero byte after it
 abbrev pub zero_ended : List (List ℕ) → List ℕ
@@ -40,3 +44,17 @@ RelocationsOf strings ext name (Ok words) =
     (records : List (List ℕ)) × Words strings (said ext).relocations name (Ok records)
     × (words ≡ flat_map (λ r. r) records)
 RelocationsOf strings ext name (Err refusal) = Words strings (said ext).relocations name (Err refusal)
+
+-- For an open table with `.BTF.ext`, a name that is UTF-8, and one of the two parts, the call fills the buffer with
+-- the records of the section.
+abbrev pub EndsRecords : Handle → ℕ → List ℕ → List ℕ → List ℕ → ℕ → Fault → ℕ → Type 0
+EndsRecords table part name old_out new_out needed fault result =
+    table.state ≡ 2 → IsUtf8 name → (ext : OpenedExt) → table.opened.ext ≡ Some ext → part ≤ 1
+    → EndsFilling result old_out new_out needed fault (RecordsOf ext part name)
+
+-- For an open table with `.BTF.ext` and a name that is UTF-8, the call fills the buffer with the relocation records
+-- of the section.
+abbrev pub EndsRelocations : Handle → List ℕ → List ℕ → List ℕ → ℕ → Fault → ℕ → Type 0
+EndsRelocations table name old_out new_out needed fault result =
+    table.state ≡ 2 → IsUtf8 name → (ext : OpenedExt) → table.opened.ext ≡ Some ext
+    → EndsFilling result old_out new_out needed fault (RelocationsOf table.opened.btf.strings ext name)

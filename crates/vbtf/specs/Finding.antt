@@ -4,7 +4,15 @@
 use Rattle.std.specs.Prelude.{◌≡◌, ◌≢◌, ◌⊎◌, ℕ, ◌<◌, ◌≤◌, ◌==◌, if◌then◌else◌, Bool, true, false, List, length, slice_get, option_map, Option, Some, None, Result, Ok, Err}
 use Rattle.btf_model.specs.Record.{Kind, Record, kind_of, kinds}
 use Rattle.btf_model.specs.Refusal.{Refusal, UnknownBtfTypeName}
-use Rattle.btf_model.specs.Text.{text_at}
+use Rattle.btf_model.specs.Text.{text_at, FindsName}
+use Rattle.vbtf.specs.Status.{EndsOrNoMemory}
+use Rattle.vbtf.specs.declared.fault.Fault.{Fault}
+use Rattle.vbtf.specs.declared.handle.Handle.{Handle}
+use Rattle.std.specs.Str.{IsUtf8}
+use Rattle.btf_plain.specs.declared.error.BtfError.{BtfError}
+use Rattle.std.specs.Option.{MatchOption}
+use Rattle.btf_plain.specs.Error.{MeetsOrNoMemory}
+use Rattle.btf_model.specs.Table.{Table}
 
 -- the number that asks for any kind
 abbrev pub any_kind : ℕ
@@ -50,3 +58,32 @@ FindsFrom strings records wanted name first (Err refusal) =
     ((id : ℕ) × (r : Record) × IsReachedFrom strings records wanted name first id r
     × (text_at strings r.name ≡ Err refusal))
     ⊎ (AreSkipped strings records wanted name first (length records) × (refusal ≡ UnknownBtfTypeName name))
+
+-- For an open table, a name that is UTF-8, and a number that asks for a kind or for any kind, the call ends with
+-- the least id from `first` on of a type of the name and the kind.
+abbrev pub EndsFindingFrom : Handle → List ℕ → ℕ → ℕ → ℕ → Fault → ℕ → Type 0
+EndsFindingFrom table name kind first id fault result =
+    table.state ≡ 2 → IsUtf8 name → (wanted : Option Kind) → asked_kind kind ≡ Some wanted
+    → EndsOrNoMemory result id fault (FindsFrom table.opened.btf.strings table.opened.btf.records wanted name
+    first)
+
+-- None if the name is not UTF-8 or no kind has the number; else what the search from an id on finds.
+abbrev pub AnswersFrom : Table → List ℕ → ℕ → ℕ → Option (Result ℕ BtfError) → Type 0
+AnswersFrom table name kind first result =
+    MatchOption result ((IsUtf8 name → ⊥) ⊎ (asked_kind kind ≡ None))
+    (λ answer. IsUtf8 name × (wanted : Option Kind) × (asked_kind kind ≡ Some wanted)
+    × MeetsOrNoMemory (λ id. id) answer (FindsFrom table.strings table.records wanted name first))
+
+-- For an open table, a name that is UTF-8, and the number of a kind, the call ends with the least id of a type of
+-- the name and the kind.
+abbrev pub EndsFindingName : Handle → List ℕ → ℕ → ℕ → Fault → ℕ → Type 0
+EndsFindingName table name kind id fault result =
+    table.state ≡ 2 → IsUtf8 name → (k : Kind) → slice_get kinds kind ≡ Some k
+    → EndsOrNoMemory result id fault (FindsName table.opened.btf.strings table.opened.btf.records k name)
+
+-- None if the name is not UTF-8 or no kind has the number; else what the search finds.
+abbrev pub AnswersName : Table → List ℕ → ℕ → Option (Result ℕ BtfError) → Type 0
+AnswersName table name kind result =
+    MatchOption result ((IsUtf8 name → ⊥) ⊎ (slice_get kinds kind ≡ None))
+    (λ answer. IsUtf8 name × (k : Kind) × (slice_get kinds kind ≡ Some k)
+    × MeetsOrNoMemory (λ id. id) answer (FindsName table.strings table.records k name))

@@ -18,6 +18,8 @@ use Rattle.vbtf.specs.declared.kernel.Asked.{Asked}
 use Rattle.vbtf.specs.declared.fault.Fault.{Fault}
 use Rattle.vbtf.specs.declared.handle.Handle.{Handle}
 use Rattle.vbtf.specs.Status.{Fails}
+use Rattle.vbtf.specs.Program.{AreReadableEntries, layout_named}
+use Rattle.vbtf.specs.declared.program.Named.{Named}
 
 -- the policy for DATASECs that have a size and no entries
 abbrev pub policy_chosen : Kernel → FillPolicy
@@ -80,3 +82,12 @@ EndsRewriting status kernel layout old new asked fault =
     ⊎ ((new.opened.btf ≡ old.opened.btf)
     × ((new.opened.index ≡ None) ⊎ (new.opened.index ≡ old.opened.index)) × Fails status fault
     (RewritesForKernel kernel.features (rewrite_chosen kernel layout) old.opened.btf new.opened.btf)))
+
+-- For a table that the handle owns, and names that can be read, the call ends with the table rewritten for the
+-- kernel.
+abbrev pub EndsRewritingNamed : Handle → Handle → List ℕ → List Named → List ℕ → List Named → Kernel → Asked →
+    Fault → ℕ → Type 0
+EndsRewritingNamed old_table new_table section_names sections symbol_names symbols kernel asked fault result =
+    old_table.state ≡ 1 → AreReadableEntries section_names sections → AreReadableEntries symbol_names symbols
+    → EndsRewriting result kernel (layout_named section_names sections symbol_names symbols) old_table
+    new_table asked fault

@@ -4,7 +4,7 @@ use Rattle.btf_elf_model.specs.declared.error.ParseError.{ParseError}
 use Rattle.btf_elf_model.specs.declared.error.ParseError.TheVariants as parse
 use Rattle.btf_elf.specs.declared.error.ObjectError.TheVariants as elf
 use Rattle.btf_elf.specs.declared.error.ReplaceError.TheVariants as replace
-use Rattle.btf_object_model.specs.Sanitized.{Target, IsSanitized}
+use Rattle.btf_object_model.specs.Sanitized.{Target, IsSanitized, HasSection, ext_name}
 use Rattle.btf_object.specs.Errors.{IsSanitizeCause}
 use Rattle.btf_object.specs.declared.error.SanitizeError.{SanitizeError}
 use Rattle.btf_object.specs.declared.error.SanitizeError.TheVariants.{Object, NoTable, Table, Section, OutOfMemory}
@@ -16,6 +16,9 @@ use Rattle.vbtf.specs.Status.{Details, no_details, HasDetails, Fills, ReportsErr
 use Rattle.vbtf.specs.declared.fault.Fault.{Fault}
 use Rattle.vbtf.specs.declared.kernel.Asked.{Asked}
 use Rattle.vbtf.specs.declared.kernel.Kernel.{Kernel}
+use Rattle.btf_elf_model.specs.declared.section_header.SectionHeader.{SectionHeader}
+use Rattle.btf_object_model.specs.Laws.{KeepsExt}
+use Rattle.btf_elf_model.specs.Object as objects
 
 -- a name, or None if it is empty
 abbrev pub text_or_none : List ℕ → Option (List ℕ)
@@ -77,3 +80,10 @@ EndsSanitizing status object target old new needed asked fault =
     ((file : List ℕ) × (answers : List FeatureAnswer) × IsSanitized object target file answers
     × ListsAnswers asked answers × Fills file old new needed status)
     ⊎ ((new ≡ old) × ((e : SanitizeError) × IsSanitizeCause object target e × ReportsCause status fault e))
+
+-- If the object has a section `.BTF.ext`, the file that fills the buffer is an object that keeps it.
+abbrev pub WritesKeepingExt : List ℕ → List ℕ → List ℕ → ℕ → ℕ → Type 0
+WritesKeepingExt object old_out new_out needed result =
+    (o : objects.Object) (index : ℕ) (s : SectionHeader) → HasSection object ext_name o index s
+    → (file : List ℕ) × Fills file old_out new_out needed result
+    × (new : objects.Object) × KeepsExt object file o new index s

@@ -29,3 +29,8 @@ number_named names (entry ∷ entries) name =
 abbrev pub layout_named : List ℕ → List Named → List ℕ → List Named → Layout
 layout_named section_names sections symbol_names symbols =
     record { sections = number_named section_names sections; symbols = number_named symbol_names symbols }
+
+-- the names of the sections and of the symbols are UTF-8, and their places are inside the names
+abbrev pub AreReadable : List ℕ → List Named → List ℕ → List Named → Type 0
+AreReadable section_names sections symbol_names symbols =
+    AreReadableEntries section_names sections × AreReadableEntries symbol_names symbols

@@ -1,5 +1,5 @@
 -- The relocation of one record, for C.
-use Rattle.std.specs.Prelude.{◌≡◌, ◌⊎◌, ℕ, Bool, List, [], ◌∷◌, if◌then◌else◌, Result, Ok, Err}
+use Rattle.std.specs.Prelude.{◌≡◌, ◌⊎◌, ℕ, Bool, List, [], ◌∷◌, if◌then◌else◌, Result, Ok, Err, is_some, true}
 use Rattle.btf_model.specs.Table.{Table}
 use Rattle.btf_relocate_model.specs.Resolution.{resolution}
 use Rattle.btf_relocate_model.specs.Section.{candidates_of}
@@ -11,6 +11,7 @@ use Rattle.vbtf.specs.Status.{ReportsNoMemory}
 use Rattle.vbtf.specs.declared.fault.Fault.{Fault}
 use Rattle.vbtf.specs.declared.target.Relocated.{Relocated}
 use Rattle.vbtf.specs.declared.target.Relocation.{Relocation}
+use Rattle.vbtf.specs.declared.handle.Handle.{Handle}
 
 -- the words of a record
 abbrev pub words_of : Relocation → List ℕ
@@ -53,3 +54,9 @@ EndsResolving status local target relocation old new fault =
     ((r : Resolved) × (status ≡ 0) × (new ≡ relocated_of r) × ResolvesRecord local target relocation (Ok r))
     ⊎ ((e : RelocationError) × (new ≡ old) × ReportsRelocation status fault e
     × ResolvesRecord local target relocation (Err e))
+
+-- For two open tables, where the target has an open index, the call ends with what the record asks to be written.
+abbrev pub EndsRelocatingOne : Handle → Handle → Relocation → Relocated → Relocated → Fault → ℕ → Type 0
+EndsRelocatingOne local target relocation old_relocated new_relocated fault result =
+    local.state ≡ 2 → target.state ≡ 2 → is_some target.opened.index ≡ true
+    → EndsResolving result local.opened.btf target.opened.btf relocation old_relocated new_relocated fault

@@ -1,10 +1,12 @@
 -- The status that an exported call returns, and the details of an error in the fault.
-use Rattle.std.specs.Prelude.{◌≡◌, ◌⊎◌, ◌<◌, ◌≤◌, ℕ, List, [], ◌++◌, take, drop, length, Option, Some, None, Result, Ok, Err}
+use Rattle.std.specs.Prelude.{◌≡◌, ◌⊎◌, ◌<◌, ◌≤◌, ℕ, List, [], ◌++◌, take, drop, length, Option, Some, None, Result, Ok, Err, IfSome}
 use Rattle.btf_model.specs.Refusal as refusals
 use Rattle.btf_model.specs.Refusal.{Refusal}
 use Rattle.btf_model.specs.Table.{Table}
 use Rattle.vbtf.specs.declared.fault.Fault.{Fault}
 use Rattle.vbtf.specs.declared.handle.Handle.{Handle}
+use Rattle.btf_model.specs.Text.{bytes_at, text_at}
+use Rattle.std.specs.Str.{IsUtf8}
 
 -- The status of an error: its position among the errors, from 1 on.
 abbrev pub status_of : Refusal → ℕ
@@ -173,3 +175,10 @@ abbrev pub FillsOrReports : ℕ → List ℕ → List ℕ → ℕ → Fault → 
 FillsOrReports status old new needed fault P =
     ((bytes : List ℕ) × Fills bytes old new needed status × P (Ok bytes))
     ⊎ ((new ≡ old) × (refusal : Refusal) × ReportsRefusal status fault refusal × P (Err refusal))
+
+-- If the bytes at a string offset are UTF-8, the call fills the buffer with their text or reports why it does not, and
+-- no allocation can fail.
+abbrev pub FillsWithoutMemory : List ℕ → ℕ → List ℕ → List ℕ → ℕ → Fault → ℕ → Type 0
+FillsWithoutMemory strings offset old_out new_out needed fault result =
+    IfSome (bytes_at strings offset) IsUtf8
+    → FillsOrReports result old_out new_out needed fault (λ answer. answer ≡ text_at strings offset)

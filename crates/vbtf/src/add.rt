@@ -2,14 +2,13 @@
 
 ghost use Rattle.std.specs.Prelude.{◌≡◌, ◌≢◌, ◌<◌, ◌≤◌, OnErr};
 ghost use Rattle.std.specs.Str.{IsUtf8};
-ghost use Rattle.btf_model.specs.Table.{with_string, string_place};
 ghost use Rattle.btf_plain.specs.Error.{MeetsOrNoMemory};
-ghost use Rattle.vbtf.specs.Adding.{AddsRecord, EndsAddingType, EndsAdding};
+ghost use Rattle.vbtf.specs.Adding.{AddsRecord, EndsAddingType, EndsAdding, EndsAddingText};
 ghost use Rattle.vbtf.specs.Orders.{order_named};
 
 use crate::fault::{CLOSED, Fault, INVALID_ARGUMENT, report};
 use crate::handle::{Handle, owner, taken_to_change};
-use crate::orders::named_order;
+use crate::orders::order_of;
 use btf::{Btf, BtfError, BtfType, Endianness};
 use std::alloc::Global;
 
@@ -25,9 +24,7 @@ pub extern "C" fn vbtf_raw_add_string(
     offset: &mut u32,
     fault: &mut Fault,
 ) -> u32
-    ensures added { table.old.state ≡ 1 → IsUtf8 text.now
-        → EndsAdding result table.old table.new offset.new fault.new
-        (string_place text.now table.old.opened.btf) (with_string text.now table.old.opened.btf) }
+    ensures added { EndsAddingText table.old table.new text.now offset.new fault.new result }
     ensures closed { table.old.state ≢ 1 → IsUtf8 text.now
         → (result ≡ CLOSED) × (table.new ≡ table.old) }
     ensures not_utf8 { (IsUtf8 text.now → ⊥)
@@ -67,11 +64,10 @@ pub extern "C" fn vbtf_raw_add_type(
 ) -> u32
     ensures added { table.old.state ≡ 1 → order ≤ 1 → EndsAddingType result
         (order_named order) bytes.now table.old table.new id.new fault.new }
-    ensures closed { table.old.state ≢ 1 → order ≤ 1
-        → (result ≡ CLOSED) × (table.new ≡ table.old) }
+    ensures closed { table.old.state ≢ 1 → order ≤ 1 → (result ≡ CLOSED) × (table.new ≡ table.old) }
     ensures order { 1 < order → (result ≡ INVALID_ARGUMENT) × (table.new ≡ table.old) }
 {
-    let Some(endianness) = named_order(order) else {
+    let Some(endianness) = order_of(order) else {
         return INVALID_ARGUMENT;
     };
     let Some(mut whole) = taken_to_change(alloc, table) else {

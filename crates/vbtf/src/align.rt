@@ -8,7 +8,7 @@ ghost use Rattle.vbtf.specs.Aligning.{AlignmentOrNone, AreAlignments, EndsAligni
 ghost use Rattle.vbtf.specs.Status.{EndsOrNoMemory, KeepsHandle};
 
 use crate::fault::{CLOSED, Fault, report};
-use crate::handle::{Handle, lent};
+use crate::handle::{Handle, take_loan};
 use crate::many::places_from;
 use btf::{Btf, BtfError};
 use btf_layout::{Alignments, alignment_of};
@@ -29,7 +29,7 @@ pub extern "C" fn vbtf_lent_alignment(
     ensures closed { table.old.state ≢ 2 → result ≡ CLOSED }
     ensures kept { KeepsHandle table.old table.new }
 {
-    let Some(loan) = lent(table) else {
+    let Some(loan) = take_loan(table) else {
         return CLOSED;
     };
     let answer = alignment_of(&loan.get().btf, id);
@@ -61,7 +61,7 @@ pub extern "C" fn vbtf_lent_alignments(
     ensures closed { table.old.state ≢ 2 → (result ≡ CLOSED) × (out.new ≡ out.old) }
     ensures kept { KeepsHandle table.old table.new }
 {
-    let Some(loan) = lent(table) else {
+    let Some(loan) = take_loan(table) else {
         return CLOSED;
     };
     let answer = fill_alignments(&loan.get().btf, first, out);

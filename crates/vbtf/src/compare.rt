@@ -7,7 +7,7 @@ ghost use Rattle.btf_compare.specs.Pairs.{id_pair};
 ghost use Rattle.vbtf.specs.Status.{EndsOrNoMemory, KeepsHandle};
 
 use crate::fault::{CLOSED, Fault, report};
-use crate::handle::{Handle, lent};
+use crate::handle::{Handle, take_loan};
 use btf::{fields_are_compatible, types_are_compatible};
 
 /// Whether the types of two fields are compatible, as a relocation of a field requires.
@@ -30,10 +30,10 @@ pub extern "C" fn vbtf_lent_fields_compatible(
     ensures kept_local { KeepsHandle local.old local.new }
     ensures kept_target { KeepsHandle target.old target.new }
 {
-    let Some(first) = lent(local) else {
+    let Some(first) = take_loan(local) else {
         return CLOSED;
     };
-    let Some(second) = lent(target) else {
+    let Some(second) = take_loan(target) else {
         *local = Handle::from_loan(first);
         return CLOSED;
     };
@@ -69,10 +69,10 @@ pub extern "C" fn vbtf_lent_types_compatible(
     ensures kept_local { KeepsHandle local.old local.new }
     ensures kept_target { KeepsHandle target.old target.new }
 {
-    let Some(first) = lent(local) else {
+    let Some(first) = take_loan(local) else {
         return CLOSED;
     };
-    let Some(second) = lent(target) else {
+    let Some(second) = take_loan(target) else {
         *local = Handle::from_loan(first);
         return CLOSED;
     };

@@ -4,8 +4,8 @@ ghost use Rattle.std.specs.Prelude.{◌≡◌, ◌≢◌, Ok};
 ghost use Rattle.vbtf.specs.Status.{Opens, KeepsHandle};
 
 use crate::fault::{CLOSED, Fault, INVALID_ARGUMENT, report};
-use crate::handle::{Handle, lent, owner};
-use crate::open::boxed;
+use crate::handle::{Handle, owner, take_loan};
+use crate::open::box_table;
 use btf::Btf;
 use std::alloc::Global;
 
@@ -28,7 +28,7 @@ pub extern "C" fn vbtf_lent_clone(
     ensures closed { table.old.state ≢ 2 → (result ≡ CLOSED) × (copy.new ≡ copy.old) }
     ensures kept { KeepsHandle table.old table.new }
 {
-    let Some(loan) = lent(table) else {
+    let Some(loan) = take_loan(table) else {
         return CLOSED;
     };
     let status = open_copy(alloc, &loan.get().btf, copy, fault);
@@ -42,10 +42,10 @@ fn open_copy(alloc: Global, table: &Btf, copy: &mut Handle, fault: &mut Fault) -
         → Opens result copy.old copy.new fault.new (λ answer. answer ≡ Ok table.now) }
     ensures open { copy.old.state ≢ 0 → (result ≡ INVALID_ARGUMENT) × (copy.new ≡ copy.old) }
 {
-    if copy.seen() != 0 {
+    if copy.read_state() != 0 {
         return INVALID_ARGUMENT;
     }
-    match boxed(alloc, table.try_clone()) {
+    match box_table(alloc, table.try_clone()) {
         Ok(whole) => {
             *copy = owner(whole);
             0

@@ -8,9 +8,9 @@ ghost use Rattle.vbtf.specs.Orders.{order_chosen};
 ghost use Rattle.vbtf.specs.Status.{KeepsHandle};
 
 use crate::fault::{CLOSED, Fault, INVALID_ARGUMENT, report};
-use crate::handle::{Handle, lent, owner, taken};
+use crate::handle::{Handle, owner, take_loan, take_table};
 use crate::opened::Opened;
-use crate::orders::chosen_order;
+use crate::orders::choose_order;
 use crate::seed::Keys;
 use btf::{BtfError, BtfExt, Endianness};
 use std::alloc::Global;
@@ -49,14 +49,13 @@ pub extern "C" fn vbtf_raw_open_ext(
 ) -> u32
     ensures opened { table.old.state ≡ 1 → order ≤ 2 → EndsOpeningExt result
         (order_chosen order «data».now) «data».now table.old table.new fault.new }
-    ensures closed { table.old.state ≢ 1 → order ≤ 2
-        → (result ≡ CLOSED) × (table.new ≡ table.old) }
+    ensures closed { table.old.state ≢ 1 → order ≤ 2 → (result ≡ CLOSED) × (table.new ≡ table.old) }
     ensures order { 2 < order → (result ≡ INVALID_ARGUMENT) × (table.new ≡ table.old) }
 {
-    let Some(endianness) = chosen_order(order, data) else {
+    let Some(endianness) = choose_order(order, data) else {
         return INVALID_ARGUMENT;
     };
-    let Some(mut whole) = taken(alloc, table) else {
+    let Some(mut whole) = take_table(alloc, table) else {
         return CLOSED;
     };
     let answer = add_ext(&mut whole, data, endianness, seed);
@@ -76,7 +75,7 @@ pub extern "C" fn vbtf_close_ext(alloc: Global, table: &mut Handle)
         × ExtChangedTo table.old.opened table.new.opened None }
     ensures other { table.old.state ≢ 1 → table.new ≡ table.old }
 {
-    if let Some(mut whole) = taken(alloc, table) {
+    if let Some(mut whole) = take_table(alloc, table) {
         whole.ext = None;
         *table = owner(whole);
     }
@@ -93,7 +92,7 @@ pub extern "C" fn vbtf_lent_ext(table: &mut Handle, sizes: &mut ExtSizes) -> u32
     ensures closed { table.old.state ≢ 2 → result ≡ CLOSED }
     ensures kept { KeepsHandle table.old table.new }
 {
-    let Some(loan) = lent(table) else {
+    let Some(loan) = take_loan(table) else {
         return CLOSED;
     };
     let answer = sizes_of(loan.get());

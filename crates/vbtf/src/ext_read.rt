@@ -7,11 +7,11 @@ ghost use Rattle.std.specs.Str.{IsUtf8};
 ghost use Rattle.btf_ext.specs.BtfExt.{ext as said};
 ghost use Rattle.btf_plain.specs.Error.{MeetsOrNoMemory, IsOrNoMemory};
 ghost use Rattle.vbtf.specs.Ext.{OpenedExt};
-ghost use Rattle.vbtf.specs.ExtRead.{NamesOf, ListsNames, HasSectionName, RecordsOf, RelocationsOf, record_bytes};
+ghost use Rattle.vbtf.specs.ExtRead.{NamesOf, ListsNames, HasSectionName, RecordsOf, RelocationsOf, record_bytes, EndsRecords, EndsRelocations};
 ghost use Rattle.vbtf.specs.Status.{EndsFilling, KeepsHandle};
 
 use crate::fault::{CLOSED, Fault, INVALID_ARGUMENT, NO_ITEM, report};
-use crate::handle::{Handle, lent};
+use crate::handle::{Handle, take_loan};
 use crate::opened::{KeyedExt, Opened};
 use crate::seed::Keys;
 use crate::write::fill;
@@ -42,7 +42,7 @@ pub extern "C" fn vbtf_lent_ext_names(
     ensures closed { table.old.state ≢ 2 → (result ≡ CLOSED) × (out.new ≡ out.old) }
     ensures kept { KeepsHandle table.old table.new }
 {
-    let Some(loan) = lent(table) else {
+    let Some(loan) = take_loan(table) else {
         return CLOSED;
     };
     let status = write_names(alloc, loan.get(), part, out, needed, fault);
@@ -63,7 +63,7 @@ pub extern "C" fn vbtf_lent_ext_section(table: &mut Handle, index: u32, name: &m
     ensures closed { table.old.state ≢ 2 → result ≡ CLOSED }
     ensures kept { KeepsHandle table.old table.new }
 {
-    let Some(loan) = lent(table) else {
+    let Some(loan) = take_loan(table) else {
         return CLOSED;
     };
     let status = write_section(loan.get(), index, name);
@@ -87,9 +87,8 @@ pub extern "C" fn vbtf_lent_ext_records(
     needed: &mut u64,
     fault: &mut Fault,
 ) -> u32
-    ensures records { table.old.state ≡ 2 → IsUtf8 name.now → (ext : OpenedExt)
-        → table.old.opened.ext ≡ Some ext → part ≤ 1
-        → EndsFilling result out.old out.new needed.new fault.new (RecordsOf ext part name.now) }
+    ensures records { EndsRecords table.old part name.now out.old out.new needed.new fault.new
+        result }
     ensures part { table.old.state ≡ 2 → IsUtf8 name.now → (ext : OpenedExt)
         → table.old.opened.ext ≡ Some ext → 1 < part
         → (result ≡ INVALID_ARGUMENT) × (out.new ≡ out.old) }
@@ -103,7 +102,7 @@ pub extern "C" fn vbtf_lent_ext_records(
     let Ok(name) = str::from_utf8(name) else {
         return INVALID_ARGUMENT;
     };
-    let Some(loan) = lent(table) else {
+    let Some(loan) = take_loan(table) else {
         return CLOSED;
     };
     let status = write_records(loan.get(), part, name, out, needed, fault);
@@ -126,10 +125,7 @@ pub extern "C" fn vbtf_lent_ext_relocations(
     needed: &mut u64,
     fault: &mut Fault,
 ) -> u32
-    ensures words { table.old.state ≡ 2 → IsUtf8 name.now → (ext : OpenedExt)
-        → table.old.opened.ext ≡ Some ext
-        → EndsFilling result out.old out.new needed.new fault.new
-        (RelocationsOf table.old.opened.btf.strings ext name.now) }
+    ensures words { EndsRelocations table.old name.now out.old out.new needed.new fault.new result }
     ensures none { table.old.state ≡ 2 → IsUtf8 name.now → table.old.opened.ext ≡ None
         → (result ≡ CLOSED) × (out.new ≡ out.old) }
     ensures closed { table.old.state ≢ 2 → IsUtf8 name.now
@@ -140,7 +136,7 @@ pub extern "C" fn vbtf_lent_ext_relocations(
     let Ok(name) = str::from_utf8(name) else {
         return INVALID_ARGUMENT;
     };
-    let Some(loan) = lent(table) else {
+    let Some(loan) = take_loan(table) else {
         return CLOSED;
     };
     let status = write_relocations(alloc, loan.get(), name, out, needed, fault);

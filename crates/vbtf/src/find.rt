@@ -1,18 +1,17 @@
 //! Searches for a name from an id on.
 
-ghost use Rattle.std.specs.Prelude.{◌≡◌, ◌≢◌, ◌⊎◌, ◌↔◌, Option, Some, None, IfSome, IsTrue};
-ghost use Rattle.std.specs.Option.{MatchOption, option_map};
+ghost use Rattle.std.specs.Prelude.{◌≡◌, ◌≢◌, ◌↔◌, Option, Some, None, IfSome, IsTrue};
+ghost use Rattle.std.specs.Option.{option_map};
 ghost use Rattle.std.specs.Str.{IsUtf8};
-ghost use Rattle.btf_model.specs.Record.{Kind};
 ghost use Rattle.btf_plain.specs.Error.{MeetsOrNoMemory};
 ghost use Rattle.btf_plain.specs.Kind as kinds;
 ghost use Rattle.btf_records.specs.BtfType.{record_of};
 ghost use Rattle.btf_table.specs.Readable.{IsComparable, IsReadableEnd};
-ghost use Rattle.vbtf.specs.Finding.{FindsFrom, IsSought, IsWanted, asked_kind};
-ghost use Rattle.vbtf.specs.Status.{EndsOrNoMemory, KeepsHandle};
+ghost use Rattle.vbtf.specs.Finding.{FindsFrom, IsSought, IsWanted, asked_kind, EndsFindingFrom, AnswersFrom};
+ghost use Rattle.vbtf.specs.Status.{KeepsHandle};
 
 use crate::fault::{CLOSED, Fault, INVALID_ARGUMENT, report};
-use crate::handle::{Handle, lent};
+use crate::handle::{Handle, take_loan};
 use btf::{Btf, BtfError, BtfKind, BtfType};
 use btf_table::{allocator_of, comparable_end, is_named, type_count};
 
@@ -34,16 +33,13 @@ pub extern "C" fn vbtf_lent_find_from(
     id: &mut u32,
     fault: &mut Fault,
 ) -> u32
-    ensures found { table.old.state ≡ 2 → IsUtf8 name.now
-        → (wanted : Option Kind) → asked_kind kind ≡ Some wanted
-        → EndsOrNoMemory result id.new fault.new
-        (FindsFrom table.old.opened.btf.strings table.old.opened.btf.records wanted name.now first) }
+    ensures found { EndsFindingFrom table.old name.now kind first id.new fault.new result }
     ensures not_utf8 { table.old.state ≡ 2 → (IsUtf8 name.now → ⊥) → result ≡ INVALID_ARGUMENT }
     ensures no_kind { table.old.state ≡ 2 → asked_kind kind ≡ None → result ≡ INVALID_ARGUMENT }
     ensures closed { table.old.state ≢ 2 → result ≡ CLOSED }
     ensures kept { KeepsHandle table.old table.new }
 {
-    let Some(loan) = lent(table) else {
+    let Some(loan) = take_loan(table) else {
         return CLOSED;
     };
     let answer = find(&loan.get().btf, name, kind, first);
@@ -60,10 +56,7 @@ pub extern "C" fn vbtf_lent_find_from(
 
 /// The id of a kind and a name from an id on; None if the name is not UTF-8, or no kind has the number.
 fn find(table: &Btf, name: &[u8], kind: u32, first: u32) -> Option<Result<u32, BtfError>>
-    ensures { MatchOption result ((IsUtf8 name.now → ⊥) ⊎ (asked_kind kind ≡ None))
-        (λ answer. IsUtf8 name.now × (wanted : Option Kind) × (asked_kind kind ≡ Some wanted)
-        × MeetsOrNoMemory (λ id. id) answer
-        (FindsFrom table.now.strings table.now.records wanted name.now first)) }
+    ensures { AnswersFrom table.now name.now kind first result }
 {
     let Ok(name) = str::from_utf8(name) else {
         return None;

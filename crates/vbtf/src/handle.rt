@@ -6,7 +6,7 @@ ghost use base.Fml.{Share};
 ghost use Rattle.vbtf.specs.declared.opened.Opened.{Opened};
 ghost use Rattle.vbtf.specs.Changed.{ChangedTo};
 ghost use Rattle.vbtf.specs.Held.{held, coded_opened, coded_share};
-ghost use Rattle.vbtf.specs.Lent.{AreNamesFrom};
+ghost use Rattle.vbtf.specs.Lent.{AreNamesFrom, TakesLoan};
 
 use crate::lent_name::Name;
 use crate::loan::Loan;
@@ -56,7 +56,7 @@ impl Handle {
     }
 
     /// The state.
-    pub(crate) fn seen(&mut self) -> u32
+    pub(crate) fn read_state(&mut self) -> u32
         ensures { (result ≡ self.old.state) × (self.new ≡ self.old) }
     {
         self.state
@@ -129,23 +129,21 @@ impl Handle {
 unsafe impl Send for Handle {}
 
 /// Takes the share of a loan out of a handle, and closes the handle. None if it is not in state 2.
-pub(crate) fn lent(table: &mut Handle) -> Option<Loan<Opened>>
-    ensures { MatchOption result ((table.old.state ≢ 2) × (table.new ≡ table.old))
-        (λ loan. (table.old.state ≡ 2) × (loan.at ≡ table.old.at) × (loan.value ≡ table.old.opened)
-        × (loan.life ≡ table.old.life) × (loan.share ≡ table.old.share)) }
+pub(crate) fn take_loan(table: &mut Handle) -> Option<Loan<Opened>>
+    ensures { TakesLoan table.old table.new result }
 {
-    if table.seen() != LENT {
+    if table.read_state() != LENT {
         return None;
     }
     Some(replace(table, Handle::none()).to_loan())
 }
 
 /// Takes the table out of a handle, and closes the handle. None if it is not in state 1.
-pub(crate) fn taken(alloc: Global, table: &mut Handle) -> Option<Box<Opened>>
+pub(crate) fn take_table(alloc: Global, table: &mut Handle) -> Option<Box<Opened>>
     ensures { MatchOption result ((table.old.state ≢ 1) × (table.new ≡ table.old))
         (λ whole. (table.old.state ≡ 1) × (table.new.state ≡ 0) × (whole.value ≡ table.old.opened)) }
 {
-    if table.seen() != OWNED {
+    if table.read_state() != OWNED {
         return None;
     }
     Some(replace(table, Handle::none()).to_parts(alloc).into_box())
@@ -158,7 +156,7 @@ pub(crate) fn taken_to_change(alloc: Global, table: &mut Handle) -> Option<Box<O
         (λ whole. (table.old.state ≡ 1) × (table.new.state ≡ 0)
         × ChangedTo table.old.opened whole.value table.old.opened.btf) }
 {
-    let mut whole = taken(alloc, table)?;
+    let mut whole = take_table(alloc, table)?;
     whole.index = None;
     Some(whole)
 }

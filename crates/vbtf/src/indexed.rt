@@ -1,17 +1,16 @@
 //! Finding a type by its name in the index of a table.
 
 ghost use Rattle.std.specs.Prelude.{◌≡◌, ◌≢◌, ◌⊎◌, ◌↔◌, IsTrue, [], Some, None, Err, is_some, true, slice_get};
-ghost use Rattle.std.specs.Option.{MatchOption};
 ghost use Rattle.std.specs.Str.{IsUtf8};
-ghost use Rattle.btf_model.specs.Record.{Kind, kinds};
+ghost use Rattle.btf_model.specs.Record.{kinds};
 ghost use Rattle.btf_model.specs.Refusal.{UnknownBtfTypeName};
 ghost use Rattle.btf_plain.specs.Error.{MeetsOrNoMemory};
 ghost use Rattle.btf_plain.specs.Kind as plain;
-ghost use Rattle.vbtf.specs.IndexFinding.{FindsIndexed, FindsIndexPlace, IsNamedAt};
-ghost use Rattle.vbtf.specs.Status.{EndsOrNoMemory, KeepsHandle};
+ghost use Rattle.vbtf.specs.IndexFinding.{FindsIndexPlace, IsNamedAt, EndsFindingIndexed, EndsFindingIn, AnswersIndexed};
+ghost use Rattle.vbtf.specs.Status.{KeepsHandle};
 
 use crate::fault::{CLOSED, Fault, INVALID_ARGUMENT, report};
-use crate::handle::{Handle, lent};
+use crate::handle::{Handle, take_loan};
 use crate::opened::Opened;
 use btf::{Btf, BtfError, BtfKind};
 use btf_relocate::Target;
@@ -35,10 +34,7 @@ pub extern "C" fn vbtf_lent_index_find(
     id: &mut u32,
     fault: &mut Fault,
 ) -> u32
-    ensures found { table.old.state ≡ 2 → is_some table.old.opened.index ≡ true → IsUtf8 name.now
-        → name.now ≢ [] → (k : Kind) → slice_get kinds kind ≡ Some k
-        → EndsOrNoMemory result id.new fault.new
-        (FindsIndexed table.old.opened.btf k name.now) }
+    ensures found { EndsFindingIndexed table.old name.now kind id.new fault.new result }
     ensures no_index { table.old.state ≡ 2 → table.old.opened.index ≡ None → result ≡ CLOSED }
     ensures refused { table.old.state ≡ 2 → is_some table.old.opened.index ≡ true
         → (IsUtf8 name.now → ⊥) ⊎ (name.now ≡ []) ⊎ (slice_get kinds kind ≡ None)
@@ -46,7 +42,7 @@ pub extern "C" fn vbtf_lent_index_find(
     ensures closed { table.old.state ≢ 2 → result ≡ CLOSED }
     ensures kept { KeepsHandle table.old table.new }
 {
-    let Some(loan) = lent(table) else {
+    let Some(loan) = take_loan(table) else {
         return CLOSED;
     };
     let status = find_in(alloc, loan.get(), name, kind, id, fault);
@@ -63,9 +59,7 @@ fn find_in(
     id: &mut u32,
     fault: &mut Fault,
 ) -> u32
-    ensures found { is_some opened.now.index ≡ true → IsUtf8 name.now → name.now ≢ []
-        → (k : Kind) → slice_get kinds kind ≡ Some k → EndsOrNoMemory result id.new fault.new
-        (FindsIndexed opened.now.btf k name.now) }
+    ensures found { EndsFindingIn opened.now name.now kind id.new fault.new result }
     ensures no_index { opened.now.index ≡ None → result ≡ CLOSED }
     ensures refused { is_some opened.now.index ≡ true
         → (IsUtf8 name.now → ⊥) ⊎ (name.now ≡ []) ⊎ (slice_get kinds kind ≡ None)
@@ -87,10 +81,7 @@ fn find_in(
 
 /// The id of a kind and a name; None if the name is empty or not UTF-8, or no kind has the number.
 fn find(alloc: Global, target: &Target<'_>, name: &[u8], kind: u32) -> Option<Result<u32, BtfError>>
-    ensures { MatchOption result
-        ((IsUtf8 name.now → ⊥) ⊎ (name.now ≡ []) ⊎ (slice_get kinds kind ≡ None))
-        (λ answer. IsUtf8 name.now × (name.now ≢ []) × (k : Kind) × (slice_get kinds kind ≡ Some k)
-        × MeetsOrNoMemory (λ id. id) answer (FindsIndexed target.now k name.now)) }
+    ensures { AnswersIndexed name.now kind target.now result }
 {
     let Ok(text) = str::from_utf8(name) else {
         return None;

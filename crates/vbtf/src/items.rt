@@ -8,7 +8,7 @@ ghost use Rattle.vbtf.specs.Items.{IsGroup, IsItem, ItemOf};
 ghost use Rattle.vbtf.specs.Status.{EndsFinding, KeepsHandle};
 
 use crate::fault::{CLOSED, Fault, NO_ITEM, report};
-use crate::handle::{Handle, lent};
+use crate::handle::{Handle, take_loan};
 use btf::{Btf, BtfError, BtfType};
 use btf_plain::Item as Listed;
 
@@ -56,7 +56,7 @@ pub extern "C" fn vbtf_lent_item(
     ensures closed { table.old.state ≢ 2 → result ≡ CLOSED }
     ensures kept { KeepsHandle table.old table.new }
 {
-    let Some(loan) = lent(table) else {
+    let Some(loan) = take_loan(table) else {
         return CLOSED;
     };
     let answer = item_of(&loan.get().btf, id, index);

@@ -6,7 +6,7 @@ ghost use Rattle.vbtf.specs.Lists.{EndsListing, ItemsOf, ListsItems, entries, en
 ghost use Rattle.vbtf.specs.Status.{Begins, KeepsHandle};
 
 use crate::fault::{CLOSED, Fault, report};
-use crate::handle::{Handle, lent};
+use crate::handle::{Handle, take_loan};
 use btf::{Btf, BtfEnum, BtfEnum64, BtfError, BtfMember, BtfParam, BtfType, DataSecEntry};
 
 /// A member of a STRUCT or UNION.
@@ -182,7 +182,7 @@ pub extern "C" fn vbtf_lent_members(
     ensures closed { table.old.state ≢ 2 → (result ≡ CLOSED) × (out.new ≡ out.old) }
     ensures kept { KeepsHandle table.old table.new }
 {
-    let Some(loan) = lent(table) else {
+    let Some(loan) = take_loan(table) else {
         return CLOSED;
     };
     let answer = fill_members(&loan.get().btf, id, out);
@@ -225,7 +225,7 @@ pub extern "C" fn vbtf_lent_variants(
     ensures closed { table.old.state ≢ 2 → (result ≡ CLOSED) × (out.new ≡ out.old) }
     ensures kept { KeepsHandle table.old table.new }
 {
-    let Some(loan) = lent(table) else {
+    let Some(loan) = take_loan(table) else {
         return CLOSED;
     };
     let answer = fill_variants(&loan.get().btf, id, out);
@@ -268,7 +268,7 @@ pub extern "C" fn vbtf_lent_params(
     ensures closed { table.old.state ≢ 2 → (result ≡ CLOSED) × (out.new ≡ out.old) }
     ensures kept { KeepsHandle table.old table.new }
 {
-    let Some(loan) = lent(table) else {
+    let Some(loan) = take_loan(table) else {
         return CLOSED;
     };
     let answer = fill_params(&loan.get().btf, id, out);
@@ -310,7 +310,7 @@ pub extern "C" fn vbtf_lent_entries(
     ensures closed { table.old.state ≢ 2 → (result ≡ CLOSED) × (out.new ≡ out.old) }
     ensures kept { KeepsHandle table.old table.new }
 {
-    let Some(loan) = lent(table) else {
+    let Some(loan) = take_loan(table) else {
         return CLOSED;
     };
     let answer = fill_entries(&loan.get().btf, id, out);

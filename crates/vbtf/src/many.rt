@@ -7,7 +7,7 @@ ghost use Rattle.vbtf.specs.Status.{Begins, KeepsHandle};
 ghost use Rattle.vbtf.specs.TypeWords.{words_in};
 
 use crate::fault::CLOSED;
-use crate::handle::{Handle, lent};
+use crate::handle::{Handle, take_loan};
 use crate::read::{TypeWords, words};
 use btf::{Btf, BtfType};
 use btf_table::type_count;
@@ -29,7 +29,7 @@ pub extern "C" fn vbtf_lent_types(
     ensures closed { table.old.state ≢ 2 → (result ≡ CLOSED) × (out.new ≡ out.old) }
     ensures kept { KeepsHandle table.old table.new }
 {
-    let Some(loan) = lent(table) else {
+    let Some(loan) = take_loan(table) else {
         return CLOSED;
     };
     *count = fill_types(&loan.get().btf, first, out);
@@ -78,7 +78,7 @@ pub extern "C" fn vbtf_lent_sizes(
     ensures closed { table.old.state ≢ 2 → (result ≡ CLOSED) × (out.new ≡ out.old) }
     ensures kept { KeepsHandle table.old table.new }
 {
-    let Some(loan) = lent(table) else {
+    let Some(loan) = take_loan(table) else {
         return CLOSED;
     };
     *count = fill_sizes(&loan.get().btf, first, out) as u64;
@@ -133,7 +133,7 @@ pub extern "C" fn vbtf_lent_resolved(
     ensures closed { table.old.state ≢ 2 → (result ≡ CLOSED) × (out.new ≡ out.old) }
     ensures kept { KeepsHandle table.old table.new }
 {
-    let Some(loan) = lent(table) else {
+    let Some(loan) = take_loan(table) else {
         return CLOSED;
     };
     *count = fill_resolved(&loan.get().btf, first, out) as u64;

@@ -9,7 +9,7 @@ ghost use Rattle.vbtf.specs.Naming.{AreNames, EndsNaming};
 ghost use Rattle.vbtf.specs.Status.{KeepsHandle};
 
 use crate::fault::{CLOSED, Fault, report};
-use crate::handle::{Handle, LENT, lent};
+use crate::handle::{Handle, LENT, take_loan};
 use crate::lent_name::Name;
 use crate::opened::Opened;
 use btf::{Btf, BtfError, BtfType, Float};
@@ -34,7 +34,7 @@ pub extern "C" fn vbtf_lent_name(
     ensures closed { table.old.state ≢ 2 → result ≡ CLOSED }
     ensures kept { KeepsHandle table.old table.new }
 {
-    if table.seen() != LENT {
+    if table.read_state() != LENT {
         return CLOSED;
     }
     let Some(found) = name_len(table, offset) else {
@@ -58,7 +58,7 @@ pub extern "C" fn vbtf_lent_names(table: &mut Handle, names: &mut Name) -> u32
     ensures closed { table.old.state ≢ 2 → result ≡ CLOSED }
     ensures kept { KeepsHandle table.old table.new }
 {
-    if table.seen() != LENT {
+    if table.read_state() != LENT {
         return CLOSED;
     }
     *names = table.names_at(0);
@@ -75,7 +75,7 @@ pub extern "C" fn vbtf_lent_string_count(table: &mut Handle, count: &mut u64) ->
     ensures closed { table.old.state ≢ 2 → result ≡ CLOSED }
     ensures kept { KeepsHandle table.old table.new }
 {
-    let Some(loan) = lent(table) else {
+    let Some(loan) = take_loan(table) else {
         return CLOSED;
     };
     *count = zeros(string_section(&loan.get().btf)) as u64;
@@ -96,7 +96,7 @@ fn name_len(table: &mut Handle, offset: u32) -> Option<usize>
     ensures found { result ≡ option_map length (bytes_at table.old.opened.btf.strings offset) }
     ensures kept { KeepsHandle table.old table.new }
 {
-    let loan = lent(table)?;
+    let loan = take_loan(table)?;
     let answer = len_of(&loan.get().btf, offset);
     *table = Handle::from_loan(loan);
     answer

@@ -1,15 +1,10 @@
 //! Objects that are rewritten for a kernel.
 
-ghost use Rattle.std.specs.Prelude.{◌≡◌, ℕ, List, Some, None, IfOk, IfErr};
+ghost use Rattle.std.specs.Prelude.{◌≡◌, Some, None};
 ghost use Rattle.std.specs.Option.{option_map};
 ghost use Rattle.std.specs.Str.{IsUtf8};
-ghost use Rattle.btf_rewrite_model.specs.declared.feature.BtfFeature.{BtfFeature};
-ghost use Rattle.btf_elf_model.specs.Object as elf;
-ghost use Rattle.btf_elf_model.specs.declared.section_header.SectionHeader.{SectionHeader};
-ghost use Rattle.btf_object_model.specs.Laws.{KeepsExt};
-ghost use Rattle.btf_object_model.specs.Sanitized.{HasSection, ext_name};
-ghost use Rattle.vbtf.specs.Status.{Fills, no_details};
-ghost use Rattle.vbtf.specs.Object.{text_or_none, target_chosen, parse_place, parse_detail, ReportsNumber, ReportsCause, EndsSanitizing};
+ghost use Rattle.vbtf.specs.Status.{no_details};
+ghost use Rattle.vbtf.specs.Object.{text_or_none, target_chosen, parse_place, parse_detail, ReportsNumber, ReportsCause, EndsSanitizing, WritesKeepingExt};
 
 use crate::fault::{Fault, INVALID_ARGUMENT, OUT_OF_MEMORY, report, report_number};
 use crate::kernel::{Asked, Kernel};
@@ -56,10 +51,7 @@ pub extern "C" fn vbtf_raw_sanitize_object(
     ensures sanitized { IsUtf8 placeholder.now → EndsSanitizing result object.now
         (target_chosen kernel.now placeholder.now) out.old out.new needed.new asked.new fault.new }
     // With the new table the object's section `.BTF.ext` has the same contents as with the old table.
-    ensures ext { IsUtf8 placeholder.now → result ≡ 0 → (o : elf.Object) (index : ℕ)
-        (s : SectionHeader) → HasSection object.now ext_name o index s
-        → (file : List ℕ) × Fills file out.old out.new needed.new result
-        × (new : elf.Object) × KeepsExt object.now file o new index s }
+    ensures ext { IsUtf8 placeholder.now → result ≡ 0 → WritesKeepingExt object.now out.old out.new needed.new result }
     ensures unreadable { (IsUtf8 placeholder.now → ⊥)
         → (result ≡ INVALID_ARGUMENT) × (out.new ≡ out.old) }
 {

@@ -8,9 +8,9 @@ ghost use Rattle.vbtf.specs.Orders.{order_chosen};
 ghost use Rattle.vbtf.specs.Status.{Opens};
 
 use crate::fault::{Fault, INVALID_ARGUMENT, report};
-use crate::handle::{Handle, owner, taken};
+use crate::handle::{Handle, owner, take_table};
 use crate::opened::Opened;
-use crate::orders::chosen_order;
+use crate::orders::choose_order;
 use btf::{Btf, BtfError};
 use std::alloc::Global;
 
@@ -23,10 +23,10 @@ pub extern "C" fn vbtf_raw_new(alloc: Global, table: &mut Handle, fault: &mut Fa
         → Opens result table.old table.new fault.new (λ answer. answer ≡ Ok empty_table) }
     ensures refused { table.old.state ≢ 0 → (result ≡ INVALID_ARGUMENT) × (table.new ≡ table.old) }
 {
-    if table.seen() != 0 {
+    if table.read_state() != 0 {
         return INVALID_ARGUMENT;
     }
-    match boxed(alloc, Btf::new(alloc)) {
+    match box_table(alloc, Btf::new(alloc)) {
         Ok(whole) => {
             *table = owner(whole);
             0
@@ -58,13 +58,13 @@ pub extern "C" fn vbtf_raw_parse(
     ensures open { table.old.state ≢ 0 → (result ≡ INVALID_ARGUMENT) × (table.new ≡ table.old) }
     ensures order { 2 < order → (result ≡ INVALID_ARGUMENT) × (table.new ≡ table.old) }
 {
-    let Some(endianness) = chosen_order(order, data) else {
+    let Some(endianness) = choose_order(order, data) else {
         return INVALID_ARGUMENT;
     };
-    if table.seen() != 0 {
+    if table.read_state() != 0 {
         return INVALID_ARGUMENT;
     }
-    match boxed(alloc, Btf::parse(alloc, data, endianness)) {
+    match box_table(alloc, Btf::parse(alloc, data, endianness)) {
         Ok(whole) => {
             *table = owner(whole);
             0
@@ -79,16 +79,18 @@ pub extern "C" fn vbtf_close(alloc: Global, table: &mut Handle)
     ensures closed { table.old.state ≡ 1 → table.new.state ≡ 0 }
     ensures other { table.old.state ≢ 1 → table.new ≡ table.old }
 {
-    if let Some(whole) = taken(alloc, table) {
+    if let Some(whole) = take_table(alloc, table) {
         drop(whole);
     }
 }
 
 /// The table of a result, in a box, without `.BTF.ext` and index.
-pub(crate) fn boxed(alloc: Global, answer: Result<Btf, BtfError>) -> Result<Box<Opened>, BtfError>
-    ensures { MatchResult result
-        (λ whole. (answer ≡ Ok whole.value.btf) × (whole.value.ext ≡ None)
-        × (whole.value.index ≡ None))
+pub(crate) fn box_table(
+    alloc: Global,
+    answer: Result<Btf, BtfError>,
+) -> Result<Box<Opened>, BtfError>
+    ensures { MatchResult result (λ whole. (answer ≡ Ok whole.value.btf)
+        × (whole.value.ext ≡ None) × (whole.value.index ≡ None))
         (λ error. (answer ≡ Err error) ⊎ (error ≡ OutOfMemory)) }
 {
     let opened = Opened {

@@ -6,7 +6,7 @@ ghost use Rattle.vbtf.specs.Orders.{order_named, order_number, order_by_magic, o
 ghost use Rattle.vbtf.specs.Status.{KeepsHandle};
 
 use crate::fault::CLOSED;
-use crate::handle::{Handle, lent};
+use crate::handle::{Handle, take_loan};
 use btf::Endianness;
 
 /// The byte order of a table: 0 for little, 1 for big.
@@ -19,7 +19,7 @@ pub extern "C" fn vbtf_lent_order(table: &mut Handle, order: &mut u32) -> u32
     ensures closed { table.old.state ≢ 2 → result ≡ CLOSED }
     ensures kept { KeepsHandle table.old table.new }
 {
-    let Some(loan) = lent(table) else {
+    let Some(loan) = take_loan(table) else {
         return CLOSED;
     };
     *order = number_of(loan.get().btf.endianness());
@@ -38,7 +38,7 @@ pub(crate) fn number_of(endianness: Endianness) -> u32
 }
 
 /// The byte order of a number: 0 for little, 1 for big. None for another number.
-pub(crate) fn named_order(order: u32) -> Option<Endianness>
+pub(crate) fn order_of(order: u32) -> Option<Endianness>
     ensures { MatchOption result (1 < order)
         (λ endianness. (order ≤ 1) × (endianness ≡ order_named order)) }
 {
@@ -51,13 +51,13 @@ pub(crate) fn named_order(order: u32) -> Option<Endianness>
 
 /// The byte order of a number for these bytes: 0 for little, 1 for big, 2 for the order of their magic. None for
 /// another number.
-pub(crate) fn chosen_order(order: u32, bytes: &[u8]) -> Option<Endianness>
+pub(crate) fn choose_order(order: u32, bytes: &[u8]) -> Option<Endianness>
     ensures { MatchOption result (2 < order)
         (λ endianness. (order ≤ 2) × (endianness ≡ order_chosen order bytes.now)) }
 {
     match order {
         2 => Some(order_by_magic(bytes)),
-        _ => named_order(order),
+        _ => order_of(order),
     }
 }
 

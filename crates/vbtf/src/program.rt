@@ -2,7 +2,7 @@
 
 ghost use Rattle.std.specs.Prelude.{◌≡◌, ℕ, List, IfOk, IfSome, IfNone};
 ghost use Rattle.btf.specs.Layout.{sizes_of, offsets_of, layout_of};
-ghost use Rattle.vbtf.specs.Program.{name_in, number_named, layout_named, IsReadable, AreReadableEntries};
+ghost use Rattle.vbtf.specs.Program.{name_in, number_named, layout_named, IsReadable, AreReadableEntries, AreReadable};
 
 use crate::seed::Keys;
 use btf::SectionIndex;
@@ -43,11 +43,9 @@ impl Program {
         ensures some { IfOk result (λ found. IfSome found (λ p. layout_of p.sections p.symbols
             ≡ layout_named section_names.now sections.now symbol_names.now symbols.now)) }
         ensures readable { IfOk result (λ found. IfSome found
-            (λ _. AreReadableEntries section_names.now sections.now
-            × AreReadableEntries symbol_names.now symbols.now)) }
+            (λ _. AreReadable section_names.now sections.now symbol_names.now symbols.now)) }
         ensures none { IfOk result (λ found. IfNone found
-            (AreReadableEntries section_names.now sections.now
-            × AreReadableEntries symbol_names.now symbols.now → ⊥)) }
+            (AreReadable section_names.now sections.now symbol_names.now symbols.now → ⊥)) }
     {
         let Some(sections) = read_sections(alloc, keys, section_names, sections)? else {
             return Ok(None);

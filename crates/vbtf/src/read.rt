@@ -1,17 +1,16 @@
 //! Reading a table.
 
-ghost use Rattle.std.specs.Prelude.{◌≡◌, ◌≢◌, ◌⊎◌, length, slice_get, Some, None, true, false};
-ghost use Rattle.std.specs.Option.{MatchOption};
+ghost use Rattle.std.specs.Prelude.{◌≡◌, ◌≢◌, length, slice_get, Some, None, true, false};
 ghost use Rattle.std.specs.Str.{IsUtf8};
-ghost use Rattle.btf_model.specs.Record.{Kind, kinds};
-ghost use Rattle.btf_model.specs.Text.{FindsName};
-ghost use Rattle.btf_plain.specs.Error.{Meets, MeetsOrNoMemory};
+ghost use Rattle.btf_model.specs.Record.{kinds};
+ghost use Rattle.btf_plain.specs.Error.{Meets};
 ghost use Rattle.btf_records.specs.BtfType.{record_of, type_kind, has_no_third};
-ghost use Rattle.vbtf.specs.Status.{EndsCall, EndsOrNoMemory, KeepsHandle};
+ghost use Rattle.vbtf.specs.Status.{EndsCall, KeepsHandle};
 ghost use Rattle.vbtf.specs.TypeWords.{WordsOf, words_in};
+ghost use Rattle.vbtf.specs.Finding.{EndsFindingName, AnswersName};
 
 use crate::fault::{CLOSED, Fault, INVALID_ARGUMENT, report};
-use crate::handle::{Handle, lent};
+use crate::handle::{Handle, take_loan};
 use btf::{Btf, BtfError, BtfKind, BtfType};
 
 /// The number of types of a table, including the type of id 0.
@@ -24,7 +23,7 @@ pub extern "C" fn vbtf_lent_count(table: &mut Handle, count: &mut u64) -> u32
     ensures closed { table.old.state ≢ 2 → result ≡ CLOSED }
     ensures kept { KeepsHandle table.old table.new }
 {
-    let Some(loan) = lent(table) else {
+    let Some(loan) = take_loan(table) else {
         return CLOSED;
     };
     *count = count_of(&loan.get().btf);
@@ -69,7 +68,7 @@ pub extern "C" fn vbtf_lent_type(
     ensures closed { table.old.state ≢ 2 → result ≡ CLOSED }
     ensures kept { KeepsHandle table.old table.new }
 {
-    let Some(loan) = lent(table) else {
+    let Some(loan) = take_loan(table) else {
         return CLOSED;
     };
     let answer = words_of(&loan.get().btf, id);
@@ -97,15 +96,13 @@ pub extern "C" fn vbtf_lent_find(
     id: &mut u32,
     fault: &mut Fault,
 ) -> u32
-    ensures found { table.old.state ≡ 2 → IsUtf8 name.now
-        → (k : Kind) → slice_get kinds kind ≡ Some k → EndsOrNoMemory result id.new fault.new
-        (FindsName table.old.opened.btf.strings table.old.opened.btf.records k name.now) }
+    ensures found { EndsFindingName table.old name.now kind id.new fault.new result }
     ensures not_utf8 { table.old.state ≡ 2 → (IsUtf8 name.now → ⊥) → result ≡ INVALID_ARGUMENT }
     ensures no_kind { table.old.state ≡ 2 → slice_get kinds kind ≡ None → result ≡ INVALID_ARGUMENT }
     ensures closed { table.old.state ≢ 2 → result ≡ CLOSED }
     ensures kept { KeepsHandle table.old table.new }
 {
-    let Some(loan) = lent(table) else {
+    let Some(loan) = take_loan(table) else {
         return CLOSED;
     };
     let answer = find(&loan.get().btf, name, kind);
@@ -170,10 +167,7 @@ fn third_word(btf_type: &BtfType) -> u32
 
 /// The id of a kind and a name; None if the name is not UTF-8, or no kind has the number.
 fn find(table: &Btf, name: &[u8], kind: u32) -> Option<Result<u32, BtfError>>
-    ensures { MatchOption result ((IsUtf8 name.now → ⊥) ⊎ (slice_get kinds kind ≡ None))
-        (λ answer. IsUtf8 name.now × (k : Kind) × (slice_get kinds kind ≡ Some k)
-        × MeetsOrNoMemory (λ id. id) answer
-        (FindsName table.now.strings table.now.records k name.now)) }
+    ensures { AnswersName table.now name.now kind result }
 {
     let Ok(name) = str::from_utf8(name) else {
         return None;

@@ -8,7 +8,7 @@ ghost use Rattle.vbtf.specs.Relocate.{Outcome as Said, shares_candidates, refuse
 ghost use Rattle.vbtf.specs.Status.{KeepsHandle};
 
 use crate::fault::{CLOSED, Fault, INVALID_ARGUMENT, OUT_OF_MEMORY, report, report_number};
-use crate::handle::{Handle, lent};
+use crate::handle::{Handle, take_loan};
 use crate::object::{NO_TABLE, report_parse};
 use crate::opened::Opened;
 use crate::refused::report_refused;
@@ -81,7 +81,7 @@ pub extern "C" fn vbtf_lent_relocate_object(
         → (result ≡ CLOSED) × (out.new ≡ out.old) × (tally.new ≡ tally.old) }
     ensures kept { KeepsHandle target.old target.new }
 {
-    let Some(loan) = lent(target) else {
+    let Some(loan) = take_loan(target) else {
         return CLOSED;
     };
     let status = relocate(

@@ -5,8 +5,8 @@ ghost use Rattle.btf.specs.Layout.{layout_of};
 ghost use Rattle.btf_table.specs.Rewrites.{NeedsAreGranted, KeepsMeaning};
 ghost use Rattle.btf_plain.specs.Error.{MeetsOrNoMemory};
 ghost use Rattle.btf_rewrite_model.specs.FeatureSet.{has_bit};
-ghost use Rattle.vbtf.specs.Kernel.{policy_chosen, ids_chosen, rewrite_chosen, ListsAnswers, RewritesForKernel, ReportsAsked, ReportsGranted, EndsRewriting};
-ghost use Rattle.vbtf.specs.Program.{layout_named, AreReadableEntries};
+ghost use Rattle.vbtf.specs.Kernel.{policy_chosen, ids_chosen, rewrite_chosen, ListsAnswers, RewritesForKernel, ReportsAsked, ReportsGranted, EndsRewritingNamed};
+ghost use Rattle.vbtf.specs.Program.{layout_named, AreReadable};
 ghost use Rattle.vbtf.specs.Status.{no_memory};
 
 use crate::fault::{CLOSED, Fault, INVALID_ARGUMENT, report};
@@ -40,14 +40,10 @@ pub extern "C" fn vbtf_raw_rewrite(
     asked: &mut Asked,
     fault: &mut Fault,
 ) -> u32
-    ensures rewritten { table.old.state ≡ 1 → AreReadableEntries section_names.now sections.now
-        → AreReadableEntries symbol_names.now symbols.now → EndsRewriting result kernel.now
-        (layout_named section_names.now sections.now symbol_names.now symbols.now)
-        table.old table.new asked.new fault.new }
+    ensures rewritten { EndsRewritingNamed table.old table.new section_names.now sections.now
+        symbol_names.now symbols.now kernel.now asked.new fault.new result }
     ensures closed { table.old.state ≢ 1 → (result ≡ CLOSED) × (table.new ≡ table.old) }
-    ensures unreadable { table.old.state ≡ 1 → (AreReadableEntries section_names.now sections.now
-        × AreReadableEntries symbol_names.now symbols.now → ⊥)
-        → ((result ≡ INVALID_ARGUMENT) ⊎ (result ≡ no_memory)) × (table.new ≡ table.old) }
+    ensures unreadable { table.old.state ≡ 1 → ¬ (AreReadable section_names.now sections.now symbol_names.now symbols.now) → ((result ≡ INVALID_ARGUMENT) ⊎ (result ≡ no_memory)) × (table.new ≡ table.old) }
     // Whether the rewrite succeeds or fails, the reported features are the first ones that it asks for, each with
     // whether the kernel has it; there are none if the call fails before the rewrite begins.
     ensures asked { ReportsAsked kernel.now (layout_named section_names.now sections.now
@@ -60,7 +56,7 @@ pub extern "C" fn vbtf_raw_rewrite(
     ensures kept { result ≡ 0 → KeepsMeaning table.old.opened.btf table.new.opened.btf }
 {
     asked.list(&[]);
-    if table.seen() != OWNED {
+    if table.read_state() != OWNED {
         return CLOSED;
     }
     let keys = Keys { seed };
@@ -72,7 +68,7 @@ pub extern "C" fn vbtf_raw_rewrite(
     let Some(mut whole) = taken_to_change(alloc, table) else {
         return CLOSED;
     };
-    let answer = rewritten(&mut whole.btf, &program, kernel, asked);
+    let answer = rewrite(&mut whole.btf, &program, kernel, asked);
     *table = owner(whole);
     match answer {
         Ok(_) => 0,
@@ -82,7 +78,7 @@ pub extern "C" fn vbtf_raw_rewrite(
 
 /// Rewrites a table for a kernel. Returns the answers that it got, and reports them, also after an error. An error
 /// leaves the table unchanged.
-fn rewritten(
+fn rewrite(
     btf: &mut Btf,
     program: &Program,
     kernel: &Kernel,

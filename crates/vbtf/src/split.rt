@@ -1,16 +1,15 @@
 //! Split tables: the types of a kernel module over those of the kernel, its base.
 
 ghost use Rattle.std.specs.Prelude.{◌≡◌, ◌≢◌, ◌<◌, ◌≤◌, length, Ok};
-ghost use Rattle.btf_model.specs.Table.{Table};
-ghost use Rattle.btf_split_model.specs.Split.{Appends, IsJoined, Joins, cut, over_base, split_blob};
+ghost use Rattle.btf_split_model.specs.Split.{Appends, Joins, cut, split_blob};
 ghost use Rattle.vbtf.specs.Orders.{order_chosen};
-ghost use Rattle.vbtf.specs.Changing.{EndsChanging};
+ghost use Rattle.vbtf.specs.Changing.{EndsChanging, EndsOverBase, OpensOverBase, EndsTruncating};
 ghost use Rattle.vbtf.specs.Status.{EndsFilling, KeepsHandle, Opens};
 
 use crate::fault::{CLOSED, Fault, INVALID_ARGUMENT, report};
-use crate::handle::{Handle, lent, owner, taken_to_change};
-use crate::open::boxed;
-use crate::orders::chosen_order;
+use crate::handle::{Handle, owner, take_loan, taken_to_change};
+use crate::open::box_table;
+use crate::orders::choose_order;
 use crate::write::fill;
 use btf::Btf;
 use btf_split::{append_split, parse_split, split_bytes, string_len, truncate};
@@ -35,9 +34,8 @@ pub extern "C" fn vbtf_lent_parse_over(
         → Opens result table.old table.new fault.new
         (Joins (order_chosen order «data».now) base.old.opened.btf «data».now) }
     // An error means that the bytes are no table over the base.
-    ensures only_table { base.old.state ≡ 2 → table.old.state ≡ 0 → order ≤ 2
-        → (t : Table) → IsJoined (order_chosen order «data».now) base.old.opened.btf «data».now t
-        → Opens result table.old table.new fault.new (λ answer. answer ≡ Ok t) }
+    ensures only_table { EndsOverBase base.old table.old table.new «data».now order fault.new
+        result }
     ensures open { base.old.state ≡ 2 → table.old.state ≢ 0
         → (result ≡ INVALID_ARGUMENT) × (table.new ≡ table.old) }
     ensures order { base.old.state ≡ 2 → 2 < order
@@ -45,7 +43,7 @@ pub extern "C" fn vbtf_lent_parse_over(
     ensures closed { base.old.state ≢ 2 → (result ≡ CLOSED) × (table.new ≡ table.old) }
     ensures kept { KeepsHandle base.old base.new }
 {
-    let Some(loan) = lent(base) else {
+    let Some(loan) = take_loan(base) else {
         return CLOSED;
     };
     let status = open_over(alloc, &loan.get().btf, table, data, order, fault);
@@ -65,19 +63,18 @@ fn open_over(
     ensures opened { table.old.state ≡ 0 → order ≤ 2
         → Opens result table.old table.new fault.new
         (Joins (order_chosen order «data».now) base.now «data».now) }
-    ensures only_table { table.old.state ≡ 0 → order ≤ 2
-        → (t : Table) → IsJoined (order_chosen order «data».now) base.now «data».now t
-        → Opens result table.old table.new fault.new (λ answer. answer ≡ Ok t) }
+    ensures only_table { OpensOverBase base.now table.old table.new «data».now order fault.new
+        result }
     ensures open { table.old.state ≢ 0 → (result ≡ INVALID_ARGUMENT) × (table.new ≡ table.old) }
     ensures order { 2 < order → (result ≡ INVALID_ARGUMENT) × (table.new ≡ table.old) }
 {
-    let Some(endianness) = chosen_order(order, data) else {
+    let Some(endianness) = choose_order(order, data) else {
         return INVALID_ARGUMENT;
     };
-    if table.seen() != 0 {
+    if table.read_state() != 0 {
         return INVALID_ARGUMENT;
     }
-    match boxed(alloc, parse_split(alloc, base, data, endianness)) {
+    match box_table(alloc, parse_split(alloc, base, data, endianness)) {
         Ok(whole) => {
             *table = owner(whole);
             0
@@ -107,7 +104,7 @@ pub extern "C" fn vbtf_lent_split_bytes(
     ensures closed { table.old.state ≢ 2 → (result ≡ CLOSED) × (out.new ≡ out.old) }
     ensures kept { KeepsHandle table.old table.new }
 {
-    let Some(loan) = lent(table) else {
+    let Some(loan) = take_loan(table) else {
         return CLOSED;
     };
     let status = write_above(
@@ -150,7 +147,7 @@ pub extern "C" fn vbtf_lent_string_len(table: &mut Handle, len: &mut u32) -> u32
     ensures closed { table.old.state ≢ 2 → result ≡ CLOSED }
     ensures kept { KeepsHandle table.old table.new }
 {
-    let Some(loan) = lent(table) else {
+    let Some(loan) = take_loan(table) else {
         return CLOSED;
     };
     *len = string_len(&loan.get().btf);
@@ -174,11 +171,10 @@ pub extern "C" fn vbtf_raw_append_split(
     ensures appended { table.old.state ≡ 1 → order ≤ 2
         → EndsChanging result table.old table.new fault.new
         (Appends (order_chosen order «data».now) table.old.opened.btf «data».now) }
-    ensures closed { table.old.state ≢ 1 → order ≤ 2
-        → (result ≡ CLOSED) × (table.new ≡ table.old) }
+    ensures closed { table.old.state ≢ 1 → order ≤ 2 → (result ≡ CLOSED) × (table.new ≡ table.old) }
     ensures order { 2 < order → (result ≡ INVALID_ARGUMENT) × (table.new ≡ table.old) }
 {
-    let Some(data_order) = chosen_order(order, data) else {
+    let Some(data_order) = choose_order(order, data) else {
         return INVALID_ARGUMENT;
     };
     let Some(mut whole) = taken_to_change(alloc, table) else {
@@ -205,9 +201,7 @@ pub extern "C" fn vbtf_raw_truncate(
     base_strings: u32,
     fault: &mut Fault,
 ) -> u32
-    ensures cut { table.old.state ≡ 1 → EndsChanging result table.old table.new fault.new
-        (λ answer. answer ≡ over_base base_types base_strings table.old.opened.btf
-        (cut base_types base_strings table.old.opened.btf)) }
+    ensures cut { EndsTruncating table.old table.new base_types base_strings fault.new result }
     ensures closed { table.old.state ≢ 1 → (result ≡ CLOSED) × (table.new ≡ table.old) }
 {
     let Some(mut whole) = taken_to_change(alloc, table) else {

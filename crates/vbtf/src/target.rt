@@ -4,11 +4,11 @@ ghost use Rattle.std.specs.Prelude.{◌≡◌, ◌≢◌, ◌⊎◌, true, false
 ghost use Rattle.btf_plain.specs.declared.error.BtfError.TheVariants.{OutOfMemory};
 ghost use Rattle.vbtf.specs.Changed.{ChangedTo};
 ghost use Rattle.vbtf.specs.Indexed.{Indexes, EndsIndexing};
-ghost use Rattle.vbtf.specs.Resolved.{EndsResolving, ReportsRelocation, ResolvesRecord, relocated_of};
+ghost use Rattle.vbtf.specs.Resolved.{EndsResolving, ReportsRelocation, ResolvesRecord, relocated_of, EndsRelocatingOne};
 ghost use Rattle.vbtf.specs.Status.{KeepsHandle};
 
 use crate::fault::{CLOSED, Fault, INVALID_ARGUMENT, OUT_OF_MEMORY, report, report_number};
-use crate::handle::{Handle, lent, owner, taken, taken_to_change};
+use crate::handle::{Handle, owner, take_loan, take_table, taken_to_change};
 use crate::opened::Opened;
 use crate::refused::report_refused;
 use btf::{Btf, BtfError};
@@ -59,7 +59,7 @@ pub extern "C" fn vbtf_raw_target_open(alloc: Global, table: &mut Handle, fault:
     ensures opened { table.old.state ≡ 1 → EndsIndexing result table.old table.new fault.new }
     ensures closed { table.old.state ≢ 1 → (result ≡ CLOSED) × (table.new ≡ table.old) }
 {
-    let Some(mut whole) = taken(alloc, table) else {
+    let Some(mut whole) = take_table(alloc, table) else {
         return CLOSED;
     };
     let answer = add_index(alloc, &mut whole);
@@ -98,22 +98,19 @@ pub extern "C" fn vbtf_lent_relocate(
     relocated: &mut Relocated,
     fault: &mut Fault,
 ) -> u32
-    ensures relocated { local.old.state ≡ 2 → target.old.state ≡ 2
-        → is_some target.old.opened.index ≡ true
-        → EndsResolving result local.old.opened.btf target.old.opened.btf relocation.now
-        relocated.old relocated.new fault.new }
-    ensures none { local.old.state ≡ 2 → target.old.state ≡ 2
-        → target.old.opened.index ≡ None
+    ensures relocated { EndsRelocatingOne local.old target.old relocation.now relocated.old
+        relocated.new fault.new result }
+    ensures none { local.old.state ≡ 2 → target.old.state ≡ 2 → target.old.opened.index ≡ None
         → (result ≡ CLOSED) × (relocated.new ≡ relocated.old) }
     ensures closed { (local.old.state ≢ 2) ⊎ (target.old.state ≢ 2)
         → (result ≡ CLOSED) × (relocated.new ≡ relocated.old) }
     ensures kept_local { KeepsHandle local.old local.new }
     ensures kept_target { KeepsHandle target.old target.new }
 {
-    let Some(first) = lent(local) else {
+    let Some(first) = take_loan(local) else {
         return CLOSED;
     };
-    let Some(second) = lent(target) else {
+    let Some(second) = take_loan(target) else {
         *local = Handle::from_loan(first);
         return CLOSED;
     };
@@ -158,14 +155,13 @@ fn relocate_one(
     ensures relocated { is_some opened.now.index ≡ true
         → EndsResolving result local.now opened.now.btf relocation.now relocated.old relocated.new
         fault.new }
-    ensures none { opened.now.index ≡ None
-        → (result ≡ CLOSED) × (relocated.new ≡ relocated.old) }
+    ensures none { opened.now.index ≡ None → (result ≡ CLOSED) × (relocated.new ≡ relocated.old) }
 {
     let Some(index) = &opened.index else {
         return CLOSED;
     };
     let target = Target::with_index(&opened.btf, index);
-    match resolved(alloc, local, &target, relocation) {
+    match resolve(alloc, local, &target, relocation) {
         Ok(resolved) => {
             *relocated = Relocated::of(resolved);
             0
@@ -175,7 +171,7 @@ fn relocate_one(
 }
 
 /// What a record asks to be written.
-fn resolved(
+fn resolve(
     alloc: Global,
     local: &Btf,
     target: &Target<'_>,

@@ -7,7 +7,7 @@ ghost use Rattle.btf_above.specs.Variants.{NamesAreUtf8};
 ghost use Rattle.vbtf.specs.Status.{EndsFinding, EndsFindingOrNoMemory, KeepsHandle};
 
 use crate::fault::{CLOSED, Fault, INVALID_ARGUMENT, NO_ITEM, report};
-use crate::handle::{Handle, lent};
+use crate::handle::{Handle, take_loan};
 use btf::variant_value;
 
 /// The value of the first variant of a name, in the enumeration that a type resolves to: an ENUM, whose values of 32
@@ -37,7 +37,7 @@ pub extern "C" fn vbtf_lent_value(
     let Ok(name) = str::from_utf8(name) else {
         return INVALID_ARGUMENT;
     };
-    let Some(loan) = lent(table) else {
+    let Some(loan) = take_loan(table) else {
         return CLOSED;
     };
     let answer = variant_value(&loan.get().btf, id, name);

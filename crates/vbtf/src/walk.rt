@@ -5,7 +5,7 @@ ghost use Rattle.btf_model.specs.Walk.{Resolves, HasSize};
 ghost use Rattle.vbtf.specs.Status.{EndsCall, KeepsHandle};
 
 use crate::fault::{CLOSED, Fault, report};
-use crate::handle::{Handle, lent};
+use crate::handle::{Handle, take_loan};
 
 /// The size of a type in bytes.
 ///
@@ -22,7 +22,7 @@ pub extern "C" fn vbtf_lent_size(
     ensures closed { table.old.state ≢ 2 → result ≡ CLOSED }
     ensures kept { KeepsHandle table.old table.new }
 {
-    let Some(loan) = lent(table) else {
+    let Some(loan) = take_loan(table) else {
         return CLOSED;
     };
     let answer = loan.get().btf.type_size(id);
@@ -51,7 +51,7 @@ pub extern "C" fn vbtf_lent_resolve(
     ensures closed { table.old.state ≢ 2 → result ≡ CLOSED }
     ensures kept { KeepsHandle table.old table.new }
 {
-    let Some(loan) = lent(table) else {
+    let Some(loan) = take_loan(table) else {
         return CLOSED;
     };
     let answer = loan.get().btf.resolve_type(id);

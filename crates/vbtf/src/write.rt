@@ -1,13 +1,12 @@
 //! Texts and blobs in buffers of C.
 
-ghost use Rattle.std.specs.Prelude.{◌≡◌, ◌≢◌, Ok, IfSome};
-ghost use Rattle.std.specs.Str.{IsUtf8};
+ghost use Rattle.std.specs.Prelude.{◌≡◌, ◌≢◌, Ok};
 ghost use Rattle.btf_model.specs.Blob.{canon};
-ghost use Rattle.btf_model.specs.Text.{bytes_at, text_at};
-ghost use Rattle.vbtf.specs.Status.{Fills, EndsFilling, FillsOrReports, KeepsHandle};
+ghost use Rattle.btf_model.specs.Text.{text_at};
+ghost use Rattle.vbtf.specs.Status.{Fills, EndsFilling, KeepsHandle, FillsWithoutMemory};
 
 use crate::fault::{CLOSED, Fault, NO_ROOM, report};
-use crate::handle::{Handle, lent};
+use crate::handle::{Handle, take_loan};
 use btf::Btf;
 
 /// Writes the text at a string offset to a buffer, without a zero byte after it, and its length in bytes to `needed`.
@@ -26,13 +25,11 @@ pub extern "C" fn vbtf_lent_text(
         (λ answer. answer ≡ text_at table.old.opened.btf.strings offset) }
     // Nothing is allocated for a text that is UTF-8.
     ensures no_memory { table.old.state ≡ 2
-        → IfSome (bytes_at table.old.opened.btf.strings offset) IsUtf8
-        → FillsOrReports result out.old out.new needed.new fault.new
-        (λ answer. answer ≡ text_at table.old.opened.btf.strings offset) }
+        → FillsWithoutMemory table.old.opened.btf.strings offset out.old out.new needed.new fault.new result }
     ensures closed { table.old.state ≢ 2 → (result ≡ CLOSED) × (out.new ≡ out.old) }
     ensures kept { KeepsHandle table.old table.new }
 {
-    let Some(loan) = lent(table) else {
+    let Some(loan) = take_loan(table) else {
         return CLOSED;
     };
     let status = write_text(&loan.get().btf, offset, out, needed, fault);
@@ -56,7 +53,7 @@ pub extern "C" fn vbtf_lent_bytes(
     ensures closed { table.old.state ≢ 2 → (result ≡ CLOSED) × (out.new ≡ out.old) }
     ensures kept { KeepsHandle table.old table.new }
 {
-    let Some(loan) = lent(table) else {
+    let Some(loan) = take_loan(table) else {
         return CLOSED;
     };
     let status = write_bytes(&loan.get().btf, out, needed, fault);
@@ -68,9 +65,7 @@ pub extern "C" fn vbtf_lent_bytes(
 fn write_text(table: &Btf, offset: u32, out: &mut [u8], needed: &mut u64, fault: &mut Fault) -> u32
     ensures text { EndsFilling result out.old out.new needed.new fault.new
         (λ answer. answer ≡ text_at table.now.strings offset) }
-    ensures no_memory { IfSome (bytes_at table.now.strings offset) IsUtf8
-        → FillsOrReports result out.old out.new needed.new fault.new
-        (λ answer. answer ≡ text_at table.now.strings offset) }
+    ensures no_memory { FillsWithoutMemory table.now.strings offset out.old out.new needed.new fault.new result }
 {
     match table.string_at(offset) {
         Ok(text) => fill(text.as_str().as_bytes(), out, needed),

@@ -6,7 +6,7 @@ ghost use Rattle.btf_model.specs.Text.{text_at};
 ghost use Rattle.btf_plain.specs.Error.{MeetsOrNoMemory, IsOrNoMemory, refusal_of};
 ghost use Rattle.btf_ext.specs.SecInfo.{section_of};
 ghost use Rattle.btf_ext.specs.ExtHeader.{part as part_of};
-ghost use Rattle.btf_ext.specs.Info.{by_name, AreByName, GainsUnder};
+ghost use Rattle.btf_ext.specs.Info.{by_name, AreByName, GainsSection};
 
 use crate::header::Part;
 use crate::read::{name_at, readable_sections};
@@ -110,10 +110,7 @@ impl<S: SectionRecords, H: BuildHasher> BySection<S, H> {
     ) -> Result<(), BtfError>
         requires whole { IsSection rec_size (section_of section.now) }
         requires wide { 4 * S.width ≤ rec_size }
-        ensures added { OnOk result ((text : List ℕ)
-            → text_at btf.now.strings section.now.name_offset ≡ Ok text
-            → GainsUnder text (instruction_records endianness rec_size S.width
-            (section_of section.now)) (by_name S.records self.old) (by_name S.records self.new)) }
+        ensures added { OnOk result (GainsSection btf.now section.now (instruction_records endianness rec_size S.width (section_of section.now)) (by_name S.records self.old) (by_name S.records self.new)) }
         ensures refused { IfErr result (λ e. IfSome (refusal_of e)
             (λ f. text_at btf.now.strings section.now.name_offset ≡ Err f)) }
     {

@@ -9,7 +9,7 @@ ghost use Rattle.btf_object_model.specs.Kconfig as model;
 ghost use Rattle.btf_object_model.specs.Kconfig.{FindsText, FindsValue, FindsExtern, FindsExterns, IsConfigured, total};
 ghost use Rattle.btf_rewrite_model.specs.Made.{kind_at};
 ghost use Rattle.btf_object_model.specs.Finalized.{has_data_sec_kind};
-ghost use Rattle.btf_object.specs.Kconfig.{config_value_of, model_extern, has_var_kind, IsVariable, IsDataSec, LaysOutSection, MakesGlobal, FindsKconfig, HasDataSecOf, PutsSection};
+ghost use Rattle.btf_object.specs.Kconfig.{config_value_of, model_extern, has_var_kind, IsVariable, IsDataSec, LaysOutSection, MakesGlobal, FindsKconfig, HasDataSecOf, PutsSection, AreLaidOut};
 
 use crate::names::NAME_LIMIT;
 use btf_plain::{BtfArray, BtfError, BtfKind, DataSecEntry, Var, VarLinkage};
@@ -75,9 +75,8 @@ fn number(size: u32) -> Option<Value>
 
 /// The value of an array, if its elements are INTs of one byte: a text.
 fn text(btf: &Btf, array: &BtfArray) -> Option<Value>
-    ensures { FindsText btf.now
-        (array.now.element_type ∷ array.now.index_type ∷ array.now.len ∷ [])
-        (option_map config_value_of result) }
+    ensures { FindsText btf.now (array.now.element_type ∷ array.now.index_type ∷ array.now.len
+        ∷ []) (option_map config_value_of result) }
 {
     let element = btf.resolve_type(array.element_type).ok()?;
     match btf.type_by_id(element).ok()? {
@@ -137,15 +136,12 @@ fn externs_of<'a>(
 }
 
 /// The entries of externs, one after another, and their total size; None if the size exceeds 32 bits.
-fn laid_out(
+fn lay_out(
     alloc: Global,
     externs: &[Extern<'_>],
 ) -> Result<Option<(Vec<DataSecEntry>, u32)>, AllocError>
-    ensures some { IfOk result (λ o. IfSome o (λ made.
-        (map entry_of made.0.items ≡ model.externs_laid_out 0 (map model_extern externs.now))
-        × (made.1 ≡ total (map model_extern externs.now)) × (made.1 < 2 ^ 32))) }
-    ensures none { IfOk result (λ o. IfNone o
-        (2 ^ 32 ≤ total (map model_extern externs.now))) }
+    ensures some { IfOk result (λ o. IfSome o (λ made. AreLaidOut externs.now made.0.items made.1)) }
+    ensures none { IfOk result (λ o. IfNone o (2 ^ 32 ≤ total (map model_extern externs.now))) }
 {
     let mut entries = Vec::with_capacity(alloc, externs.len())?;
     let mut size = 0u32;
@@ -165,7 +161,7 @@ fn laid_out(
 
 /// A DATASEC with its externs in order, or None if it has a size or cannot be laid out. `OutOfMemory` is the only
 /// error.
-fn laid_out_section(
+fn lay_out_section(
     alloc: Global,
     btf: &Btf,
     data_sec: &DataSec,
@@ -182,7 +178,7 @@ fn laid_out_section(
         return Ok(None);
     };
     externs.sort_by_key(|it| (Reverse(it.value.alignment), it.value.size, it.name))?;
-    let Some((entries, size)) = laid_out(alloc, &externs)? else {
+    let Some((entries, size)) = lay_out(alloc, &externs)? else {
         return Ok(None);
     };
     Ok(Some(DataSec::new(data_sec.name_offset(), entries, size)))
@@ -236,7 +232,7 @@ pub fn configure(alloc: Global, btf: &mut Btf) -> Result<(), BtfError>
     let Some(found) = data_sec(btf, type_id) else {
         return Ok(());
     };
-    let Some(section) = laid_out_section(alloc, btf, found)? else {
+    let Some(section) = lay_out_section(alloc, btf, found)? else {
         return Ok(());
     };
     put_section(btf, type_id, section);

@@ -4,9 +4,9 @@ ghost use Rattle.std.specs.Prelude.{◌≡◌, IfOk, IfErr, OnOk};
 ghost use Rattle.btf_model.specs.Text.{text_at};
 ghost use Rattle.btf_rewrite_model.specs.Checks.{in_a_word};
 ghost use Rattle.btf_rewrite_model.specs.Pass.{Layout};
-ghost use Rattle.btf_table.specs.Layout.{layout_of, sizes_of, offsets_of};
+ghost use Rattle.btf_table.specs.Layout.{sizes_of, offsets_of};
 ghost use Rattle.btf_object_model.specs.Finalized.{is_of_externs, if_positive, known_section_size};
-ghost use Rattle.btf_object.specs.Finalize.{symbol_of, AreNamesCached};
+ghost use Rattle.btf_object.specs.Finalize.{symbol_of, AreNamesCached, layout_in};
 
 use crate::layout::ObjectLayout;
 use btf_plain::{BtfError, SectionIndex};
@@ -113,14 +113,11 @@ impl KnownNames {
         layout: &ObjectLayout<H>,
         name_offset: u32,
     ) -> Result<Option<u32>, BtfError>
-        requires { AreNamesCached btf.now.strings
-            (layout_of layout.now.sections layout.now.symbols) self.old }
-        ensures made { IfOk result (λ size. size
-            ≡ known_section_size (layout_of layout.now.sections layout.now.symbols)
+        requires { AreNamesCached btf.now.strings (layout_in layout.now) self.old }
+        ensures made { IfOk result (λ size. size ≡ known_section_size (layout_in layout.now)
             (text_at btf.now.strings name_offset)) }
-        ensures read { OnOk result
-            (AreNamesCached btf.now.strings (layout_of layout.now.sections layout.now.symbols)
-            self.new) }
+        ensures read { OnOk result (AreNamesCached btf.now.strings
+            (layout_in layout.now) self.new) }
         ensures memory { IfErr result (λ e. e ≡ BtfError.OutOfMemory) }
     {
         if let Some(size) = self.sizes.get(&name_offset) {
@@ -141,14 +138,11 @@ impl KnownNames {
         layout: &ObjectLayout<H>,
         name_offset: u32,
     ) -> Result<Option<Option<u32>>, BtfError>
-        requires { AreNamesCached btf.now.strings
-            (layout_of layout.now.sections layout.now.symbols) self.old }
-        ensures made { IfOk result (λ symbol. symbol
-            ≡ symbol_of (layout_of layout.now.sections layout.now.symbols)
+        requires { AreNamesCached btf.now.strings (layout_in layout.now) self.old }
+        ensures made { IfOk result (λ symbol. symbol ≡ symbol_of (layout_in layout.now)
             (text_at btf.now.strings name_offset)) }
-        ensures read { OnOk result
-            (AreNamesCached btf.now.strings (layout_of layout.now.sections layout.now.symbols)
-            self.new) }
+        ensures read { OnOk result (AreNamesCached btf.now.strings
+            (layout_in layout.now) self.new) }
         ensures memory { IfErr result (λ e. e ≡ BtfError.OutOfMemory) }
     {
         if let Some(symbol) = self.symbols.get(&name_offset) {

@@ -1,15 +1,15 @@
 //! The placeholder for functions of the kernel in `.ksyms`.
 
-ghost use Rattle.std.specs.Prelude.{◌≡◌, ◌∷◌, ◌++◌, [], length, None, Ok, OnOk};
-ghost use Rattle.btf_rewrite_model.specs.Checks.{first_fault, has_room, fits, record_len};
+ghost use Rattle.std.specs.Prelude.{◌≡◌, None, Ok, OnOk};
+ghost use Rattle.btf_rewrite_model.specs.Checks.{first_fault};
 ghost use Rattle.btf_rewrite_model.specs.Ksyms.{int_of_4, is_func, placeholder_checks};
 ghost use Rattle.btf_rewrite_model.specs.Made.{kind_at};
-ghost use Rattle.btf_model.specs.Table.{type_bytes};
 ghost use Rattle.btf_plain.specs.Error.{IsOrNoMemory};
 ghost use Rattle.btf_table.specs.Checked.{checked};
 ghost use Rattle.btf_object_model.specs.Finalized as model;
-ghost use Rattle.btf_object_model.specs.Finalized.{placeholder_text, placeholder, with_int, with_variable, with_placeholder, with_placeholder_id, placeholder_fault};
+ghost use Rattle.btf_object_model.specs.Finalized.{placeholder, with_int, with_variable, with_placeholder, with_placeholder_id, placeholder_fault};
 ghost use Rattle.btf_object_model.specs.Ksyms.{FindsKsyms};
+ghost use Rattle.btf_object.specs.Ksyms.{placeholder_place};
 
 use btf_plain::{BtfError, Int, IntEncoding, Var, VarLinkage};
 use btf_records::BtfType;
@@ -65,13 +65,8 @@ fn add_int(btf: &mut Btf) -> Result<u32, BtfError>
 /// Fails with `InvalidStringOffset` if a name does not fit in the strings, and with `InvalidTypeInfo` if a type does
 /// not fit in the types.
 fn append_placeholder(btf: &mut Btf) -> Result<u32, BtfError>
-    ensures answer { IsOrNoMemory (λ id. id) result
-        (checked (first_fault (placeholder_checks btf.old None
-        ++ has_room (length (with_int btf.old).strings) placeholder_text
-        ∷ fits (length (type_bytes (with_int btf.old))) (record_len (placeholder 0 0)) ∷ []))
-        (length (with_int btf.old).records)) }
-    ensures table { OnOk result
-        (btf.new ≡ with_variable (int_of_4 btf.old) (with_int btf.old)) }
+    ensures answer { IsOrNoMemory (λ id. id) result (placeholder_place btf.old) }
+    ensures table { OnOk result (btf.new ≡ with_variable (int_of_4 btf.old) (with_int btf.old)) }
 {
     let int = add_int(btf)?;
     let name_offset = btf.add_string("dummy_ksym")?;

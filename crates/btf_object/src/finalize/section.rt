@@ -1,15 +1,13 @@
 //! What becomes of a DATASEC.
 
-ghost use Rattle.std.specs.Prelude.{◌≡◌, ◌≤◌, length, map, if◌then◌else◌, Some, None, IfSome, IfOk, IfErr, OnOk};
-ghost use Rattle.std.specs.List.{list_all};
-ghost use Rattle.std.specs.Option.{option_map, is_some};
+ghost use Rattle.std.specs.Prelude.{◌≡◌, length, map, if◌then◌else◌, Some, None, IfSome, IfOk, IfErr, OnOk};
+ghost use Rattle.std.specs.Option.{option_map};
 ghost use Rattle.btf_model.specs.Record as model;
 ghost use Rattle.btf_model.specs.Record.{kind_of, vlen};
 ghost use Rattle.btf_rewrite_model.specs.Made.{entries};
-ghost use Rattle.btf_table.specs.Layout.{layout_of};
 ghost use Rattle.btf_table.specs.KsymsStep.{model_entry as entry_of};
-ghost use Rattle.btf_object_model.specs.Finalized.{entry_offset, entry_at_offset, IsFinal};
-ghost use Rattle.btf_object.specs.Finalize.{AreNamesCached, parts_of, completed_parts, final_parts};
+ghost use Rattle.btf_object_model.specs.Finalized.{entry_offset, IsFinal};
+ghost use Rattle.btf_object.specs.Finalize.{AreNamesCached, parts_of, completed_parts, final_parts, layout_in, entries_placed};
 
 use crate::finalize::known::KnownNames;
 use crate::layout::ObjectLayout;
@@ -27,14 +25,10 @@ fn entry_offset<H: BuildHasher>(
     names: &mut KnownNames,
     entry: &DataSecEntry,
 ) -> Result<Option<u32>, BtfError>
-    requires { AreNamesCached btf.now.strings
-        (layout_of layout.now.sections layout.now.symbols) names.old }
-    ensures made { IfOk result (λ offset. offset
-        ≡ entry_offset (layout_of layout.now.sections layout.now.symbols) btf.now
+    requires { AreNamesCached btf.now.strings (layout_in layout.now) names.old }
+    ensures made { IfOk result (λ offset. offset ≡ entry_offset (layout_in layout.now) btf.now
         (entry_of entry.now)) }
-    ensures read { OnOk result
-        (AreNamesCached btf.now.strings (layout_of layout.now.sections layout.now.symbols)
-        names.new) }
+    ensures read { OnOk result (AreNamesCached btf.now.strings (layout_in layout.now) names.new) }
     ensures memory { IfErr result (λ e. e ≡ BtfError.OutOfMemory) }
 {
     let Ok(BtfType::Var(var)) = btf.type_by_id(entry.btf_type) else {
@@ -50,25 +44,18 @@ fn entry_offset<H: BuildHasher>(
 }
 
 /// The entries at their offsets, or None if one of the offsets is not known. `OutOfMemory` is the only error.
-fn placed_entries<H: BuildHasher>(
+fn place_entries<H: BuildHasher>(
     alloc: Global,
     btf: &Btf,
     layout: &ObjectLayout<H>,
     names: &mut KnownNames,
     data_sec: &DataSec,
 ) -> Result<Option<Vec<DataSecEntry>>, BtfError>
-    requires { AreNamesCached btf.now.strings
-        (layout_of layout.now.sections layout.now.symbols) names.old }
+    requires { AreNamesCached btf.now.strings (layout_in layout.now) names.old }
     ensures made { IfOk result (λ placed_entries.
-        option_map (λ v. map entry_of v.items) placed_entries
-        ≡ if list_all (λ e. is_some (entry_offset
-        (layout_of layout.now.sections layout.now.symbols) btf.now e)) (entries data_sec.now.tail)
-        then Some (map (entry_at_offset (layout_of layout.now.sections layout.now.symbols) btf.now)
-        (entries data_sec.now.tail)) else None) }
+        option_map (λ v. map entry_of v.items) placed_entries ≡ entries_placed (layout_in layout.now) btf.now data_sec.now) }
     ensures count { IfOk result (λ o. IfSome o (λ v. length v.items ≡ vlen data_sec.now.info)) }
-    ensures read { OnOk result
-        (AreNamesCached btf.now.strings (layout_of layout.now.sections layout.now.symbols)
-        names.new) }
+    ensures read { OnOk result (AreNamesCached btf.now.strings (layout_in layout.now) names.new) }
     ensures memory { IfErr result (λ e. e ≡ BtfError.OutOfMemory) }
 {
     let mut placed = Vec::new(alloc);
@@ -102,22 +89,19 @@ fn copied(alloc: Global, entries: &[DataSecEntry]) -> Result<Vec<DataSecEntry>, 
 
 /// The size and the entries of a DATASEC of size 0 that is completed; None for another DATASEC. `OutOfMemory` is the
 /// only error.
-fn completed<H: BuildHasher>(
+fn complete<H: BuildHasher>(
     alloc: Global,
     btf: &Btf,
     layout: &ObjectLayout<H>,
     names: &mut KnownNames,
     data_sec: &DataSec,
 ) -> Result<Option<(u32, Vec<DataSecEntry>)>, BtfError>
-    requires { AreNamesCached btf.now.strings
-        (layout_of layout.now.sections layout.now.symbols) names.old }
+    requires { AreNamesCached btf.now.strings (layout_in layout.now) names.old }
     ensures made { IfOk result (λ parts. option_map parts_of parts
-        ≡ completed_parts (layout_of layout.now.sections layout.now.symbols) btf.now data_sec.now) }
+        ≡ completed_parts (layout_in layout.now) btf.now data_sec.now) }
     ensures count { IfOk result (λ o. IfSome o
         (λ parts. length parts.1.items ≡ vlen data_sec.now.info)) }
-    ensures read { OnOk result
-        (AreNamesCached btf.now.strings (layout_of layout.now.sections layout.now.symbols)
-        names.new) }
+    ensures read { OnOk result (AreNamesCached btf.now.strings (layout_in layout.now) names.new) }
     ensures memory { IfErr result (λ e. e ≡ BtfError.OutOfMemory) }
 {
     if data_sec.size() != 0 {
@@ -126,7 +110,7 @@ fn completed<H: BuildHasher>(
     let Some(size) = names.size(btf, layout, data_sec.name_offset())? else {
         return Ok(None);
     };
-    let Some(entries) = placed_entries(alloc, btf, layout, names, data_sec)? else {
+    let Some(entries) = place_entries(alloc, btf, layout, names, data_sec)? else {
         return Ok(None);
     };
     Ok(Some((size, entries)))
@@ -140,17 +124,14 @@ fn size_and_entries<H: BuildHasher>(
     names: &mut KnownNames,
     data_sec: &DataSec,
 ) -> Result<(u32, Vec<DataSecEntry>), BtfError>
-    requires { AreNamesCached btf.now.strings
-        (layout_of layout.now.sections layout.now.symbols) names.old }
+    requires { AreNamesCached btf.now.strings (layout_in layout.now) names.old }
     ensures made { IfOk result (λ parts. parts_of parts
-        ≡ final_parts (layout_of layout.now.sections layout.now.symbols) btf.now data_sec.now) }
+        ≡ final_parts (layout_in layout.now) btf.now data_sec.now) }
     ensures count { IfOk result (λ parts. length parts.1.items ≡ vlen data_sec.now.info) }
-    ensures read { OnOk result
-        (AreNamesCached btf.now.strings (layout_of layout.now.sections layout.now.symbols)
-        names.new) }
+    ensures read { OnOk result (AreNamesCached btf.now.strings (layout_in layout.now) names.new) }
     ensures memory { IfErr result (λ e. e ≡ BtfError.OutOfMemory) }
 {
-    match completed(alloc, btf, layout, names, data_sec)? {
+    match complete(alloc, btf, layout, names, data_sec)? {
         Some(parts) => Ok(parts),
         None => Ok((data_sec.size(), copied(alloc, data_sec.entries())?)),
     }
@@ -164,16 +145,12 @@ pub fn final_section<H: BuildHasher>(
     names: &mut KnownNames,
     data_sec: &DataSec,
 ) -> Result<DataSec, BtfError>
-    requires { AreNamesCached btf.now.strings
-        (layout_of layout.now.sections layout.now.symbols) names.old }
-    ensures made { IfOk result (λ new.
-        IsFinal (layout_of layout.now.sections layout.now.symbols) btf.now (Some model.DataSec)
-        data_sec.now new) }
+    requires { AreNamesCached btf.now.strings (layout_in layout.now) names.old }
+    ensures made { IfOk result (λ new. IsFinal (layout_in layout.now) btf.now
+        (Some model.DataSec) data_sec.now new) }
     ensures kind { IfOk result (λ new. kind_of new.info ≡ Some model.DataSec) }
     ensures len { IfOk result (λ new. length new.tail ≡ length data_sec.now.tail) }
-    ensures read { OnOk result
-        (AreNamesCached btf.now.strings (layout_of layout.now.sections layout.now.symbols)
-        names.new) }
+    ensures read { OnOk result (AreNamesCached btf.now.strings (layout_in layout.now) names.new) }
     ensures memory { IfErr result (λ e. e ≡ BtfError.OutOfMemory) }
 {
     // The contract is about the length of the record, which this shows.

@@ -1,11 +1,10 @@
 //! Names of types, members and enumerators, when definitions are compared.
 
-ghost use Rattle.std.specs.Prelude.{◌≡◌, ◌⊎◌, ℕ, List, Ok, Err, MatchResult};
+ghost use Rattle.std.specs.Prelude.{◌≡◌, Ok};
 ghost use Rattle.btf_records.specs.BtfType.{record_of};
 ghost use Rattle.btf_relocate_model.specs.Comparison as model;
-ghost use Rattle.btf_relocate_model.specs.declared.error.RelocationError.TheVariants.{OutOfMemory};
 ghost use Rattle.btf_relocate.specs.Gives.{Gives};
-ghost use Rattle.btf_relocate.specs.Steps.{HasNames};
+ghost use Rattle.btf_relocate.specs.Steps.{GivesNames};
 
 use crate::enumerator::{Enumerator, count};
 use crate::lookup::{name_at, name_or_none};
@@ -66,12 +65,8 @@ fn essential_names<'t>(
     table: &'t Btf,
     btf_type: &BtfType,
 ) -> Result<BTreeSet<&'t [u8]>, RelocationError>
-    ensures { MatchResult result
-        (λ set. (names : List (List ℕ))
-        × (model.essential_names table.now (model.enumerators_of (record_of btf_type.now)) ≡ Ok names)
-        × HasNames set names)
-        (λ e. (e ≡ OutOfMemory)
-        ⊎ (model.essential_names table.now (model.enumerators_of (record_of btf_type.now)) ≡ Err e)) }
+    ensures { GivesNames (model.essential_names table.now
+        (model.enumerators_of (record_of btf_type.now))) result }
 {
     let mut names = BTreeSet::new(alloc);
     for index in 0..count(btf_type) {

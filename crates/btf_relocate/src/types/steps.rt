@@ -5,12 +5,12 @@ ghost use Rattle.btf_model.specs.Record.{kind_of};
 ghost use Rattle.btf_records.specs.BtfType.{record_of};
 ghost use Rattle.btf_relocate_model.specs.Comparison as model;
 ghost use Rattle.btf_relocate.specs.Gives.{GivesBy};
-ghost use Rattle.btf_relocate.specs.Steps.{comparison, enumeration_size, step_view};
+ghost use Rattle.btf_relocate.specs.Steps.{comparison, enumeration_size, step_view, by_kinds};
 
 use super::names::{enumerators_match, names_match};
 use crate::field::members;
 use crate::lookup::type_at;
-use crate::target::compared_number;
+use crate::target::comparison_number;
 use crate::value::is_signed;
 use btf_plain::{BtfMember, BtfParam, FuncProto};
 use btf_records::BtfType;
@@ -81,7 +81,7 @@ fn compatible_step<'t>(is_pointee: bool, one: &'t BtfType, other: &'t BtfType) -
     ensures { step_view result
         ≡ model.compatible_step is_pointee (record_of one.now) (record_of other.now) }
 {
-    if compared_number(one.kind()) != compared_number(other.kind()) {
+    if comparison_number(one.kind()) != comparison_number(other.kind()) {
         return Step::Ends(false);
     }
     // Only a use of the kinds proves that the info words have them.
@@ -100,9 +100,7 @@ fn compatible_step<'t>(is_pointee: bool, one: &'t BtfType, other: &'t BtfType) -
 
 /// What the rule `Compatible` finds at two types that lead to others.
 fn compatible_through<'t>(is_pointee: bool, one: &'t BtfType, other: &'t BtfType) -> Step<'t>
-    ensures { step_view result ≡ model.compatible_through is_pointee
-        (kind_of (record_of one.now).info) (kind_of (record_of other.now).info)
-        (record_of one.now) (record_of other.now) }
+    ensures { step_view result ≡ by_kinds (model.compatible_through is_pointee) (record_of one.now) (record_of other.now) }
 {
     // Only a use of the kinds proves that the info words have them.
     let _ = (one.kind(), other.kind());
@@ -129,9 +127,7 @@ fn exact_step<'t>(
     one: &'t BtfType,
     other: &'t BtfType,
 ) -> Result<Step<'t>, RelocationError>
-    ensures { GivesBy step_view (model.exact_step local.now target.now is_pointee
-        (kind_of (record_of one.now).info) (kind_of (record_of other.now).info)
-        (record_of one.now) (record_of other.now)) result }
+    ensures { GivesBy step_view (by_kinds (model.exact_step local.now target.now is_pointee) (record_of one.now) (record_of other.now)) result }
 {
     // Only a use of the kinds proves that the info words have them.
     let _ = (one.kind(), other.kind());
@@ -168,8 +164,7 @@ fn enumeration_size(btf_type: &BtfType) -> Option<u32>
 
 /// What the rule `Matches` finds at two types that are not both enumerations.
 fn matches_step<'t>(is_pointee: bool, one: &'t BtfType, other: &'t BtfType) -> Step<'t>
-    ensures { step_view result ≡ model.matches_by is_pointee (kind_of (record_of one.now).info)
-        (kind_of (record_of other.now).info) (record_of one.now) (record_of other.now) }
+    ensures { step_view result ≡ by_kinds (model.matches_by is_pointee) (record_of one.now) (record_of other.now) }
 {
     // Only a use of the kinds proves that the info words have them.
     let _ = (one.kind(), other.kind());
@@ -186,14 +181,13 @@ fn matches_step<'t>(is_pointee: bool, one: &'t BtfType, other: &'t BtfType) -> S
             }
             Step::GoesOn(pair(is_pointee, array.element_type, other_array.element_type))
         }
-        _ => declared_step(is_pointee, one, other),
+        _ => step_of_declared(is_pointee, one, other),
     }
 }
 
 /// What the rule `Matches` finds at two types of which none or one is a STRUCT, a UNION or a FWD, or both are.
-fn declared_step<'t>(is_pointee: bool, one: &'t BtfType, other: &'t BtfType) -> Step<'t>
-    ensures { step_view result ≡ model.declared_by is_pointee (kind_of (record_of one.now).info)
-        (kind_of (record_of other.now).info) (record_of one.now) (record_of other.now) }
+fn step_of_declared<'t>(is_pointee: bool, one: &'t BtfType, other: &'t BtfType) -> Step<'t>
+    ensures { step_view result ≡ by_kinds (model.declared_by is_pointee) (record_of one.now) (record_of other.now) }
 {
     // Only a use of the kinds proves that the info words have them.
     let _ = (one.kind(), other.kind());

@@ -2,15 +2,14 @@
 
 ghost use Rattle.std.specs.Prelude.{◌≡◌, ◌<◌, ◌≤◌, drop, length, map, IfOk, IfSome};
 ghost use Rattle.btf_relocate_model.specs.Comparison as model;
-ghost use Rattle.btf_model.specs.Table.{Table};
 ghost use Rattle.btf_relocate.specs.Comparing.{LeavesFewer, LeavesFewerPlaces};
 ghost use Rattle.btf_relocate.specs.Members.{member_of};
-ghost use Rattle.btf_relocate.specs.Steps.{Compare, Continues, NamedMember, NextMember, comparison, next_of, resumed, type_of};
+ghost use Rattle.btf_relocate.specs.Steps.{Continues, NamedMember, NextMember, comparison, ResumesParameters};
 
 use super::Frame;
 use super::names::names_match;
 use super::steps::{Step, step_at};
-use crate::lookup::resolved;
+use crate::lookup::resolve_id;
 use btf_plain::{BtfMember, BtfParam};
 use btf_relocate_model::{Pair, RelocationError, Rule};
 use btf_table::Btf;
@@ -29,7 +28,7 @@ pub enum Next {
 }
 
 /// The pair of the types that two ids resolve to.
-pub fn resolved_pair(
+pub fn resolve_pair(
     rule: Rule,
     local: &Btf,
     target: &Btf,
@@ -37,8 +36,8 @@ pub fn resolved_pair(
 ) -> Result<Pair, RelocationError>
     ensures { result ≡ model.resolved_pair (comparison rule local.now target.now) pair.now }
 {
-    let id = resolved(local, pair.local)?;
-    let other = resolved(target, pair.target)?;
+    let id = resolve_id(local, pair.local)?;
+    let other = resolve_id(target, pair.target)?;
     Ok(Pair {
         local: id,
         target: other,
@@ -63,7 +62,7 @@ pub fn next_step(
             type_id: frame.start.local,
         });
     }
-    let at = resolved_pair(rule, local, target, &frame.at)?;
+    let at = resolve_pair(rule, local, target, &frame.at)?;
     match step_at(alloc, rule, local, target, &at)? {
         Step::Ends(is_alike) => Ok(Next::Ends(is_alike)),
         Step::GoesOn(pair) => Ok(Next::GoesOn(pair)),
@@ -84,12 +83,7 @@ fn next_parameter(
     others: &[BtfParam],
     returned: &Pair,
 ) -> Next
-    ensures next { (inner further : Compare) (local target : Table)
-        → next_of inner further local target
-        (model.EachParameter (map type_of params.now) (map type_of others.now) returned.now) result
-        ≡ resumed inner further local target
-        (model.EachParameter (map type_of params.now) (map type_of others.now) returned.now)
-        frame.now.index frame.now.other answer }
+    ensures next { ResumesParameters frame.now answer params.now others.now returned.now result }
     ensures fewer { LeavesFewerPlaces frame.now.index frame.now.other result }
 {
     if let Some(false) = answer {
@@ -127,7 +121,7 @@ fn next_member(
     let Some(member) = members.get(index) else {
         return Ok(Next::Ends(true));
     };
-    match named_member(local, target, member, others, from)? {
+    match match_member(local, target, member, others, from)? {
         Some((other, after)) => {
             let pair = Pair {
                 local: member.btf_type,
@@ -142,7 +136,7 @@ fn next_member(
 
 /// The type of the first member of the target from an index on that has the name of a local member, and the index after
 /// it.
-fn named_member(
+fn match_member(
     local: &Btf,
     target: &Btf,
     member: &BtfMember,

@@ -4,32 +4,23 @@ mod entries;
 mod layout;
 mod name;
 
-ghost use Rattle.std.specs.Prelude.{◌≡◌, ◌==◌, ℕ, List, [], ◌∷◌, length, map, not, true, false, None, Some, Ok, IfOk, OnOk};
-ghost use Rattle.std.specs.List.{flat_map};
+ghost use Rattle.std.specs.Prelude.{◌≡◌, ◌==◌, length, not, true, false, None, Some, Ok, IfOk, OnOk};
 ghost use Rattle.std.specs.Option.{unwrap_or};
-ghost use Rattle.btf_model.specs.Record.{Record, vlen};
 ghost use Rattle.btf_rewrite_model.specs.declared.feature.BtfFeature.{BtfFeature};
-ghost use Rattle.btf_rewrite_model.specs.declared.feature.FeatureAnswer.{FeatureAnswer};
-ghost use Rattle.btf_rewrite_model.specs.Made as model;
 ghost use Rattle.btf_rewrite_model.specs.Made.{entries};
-ghost use Rattle.btf_rewrite_model.specs.Checks.{first_fault, name_is_read};
-ghost use Rattle.btf_rewrite_model.specs.Pass.{Pass, gets_filler, size_by_name};
-ghost use Rattle.btf_rewrite_model.specs.Rule.{entry_members, placed};
-ghost use Rattle.btf_rewrite_model.specs.Fault.{member_checks, entry_checks, is_sized};
-ghost use Rattle.btf_model.specs.Text.{text_at};
-ghost use Rattle.btf_plain.specs.Error.{MeetsOrNoMemory, IsOrNoMemory};
+ghost use Rattle.btf_plain.specs.Error.{IsOrNoMemory};
 ghost use Rattle.btf_records.specs.BtfType.{record_of, fallback_of};
 ghost use Rattle.btf_table.specs.Adding.{HasRoom};
-ghost use Rattle.btf_table.specs.Checked.{checked};
 ghost use Rattle.btf_table.specs.Features.{AsksResolver, CallsFurther, IsFurther};
 ghost use Rattle.btf_table.specs.Layout.{sizes_of, offsets_of, layout_of};
 ghost use Rattle.btf_table.specs.ReadNames.{AreFound, AreRead};
 ghost use Rattle.btf_table.specs.Readable.{IsReadableEnd};
-ghost use Rattle.btf_table.specs.PassStep.{Given, pass_on, given_by, AsksInPass, StepsInPass, Rules};
-ghost use Rattle.btf_table.specs.SectionStep.{HasNewName, final_size, is_fillable, asks_zero};
+ghost use Rattle.btf_table.specs.PassStep.{given_by, AsksInPass};
+ghost use Rattle.btf_table.specs.SectionStep.{final_size, is_fillable, asks_zero};
 ghost use Rattle.btf_records.specs.declared.btf_type.BtfType.{BtfType};
+ghost use Rattle.btf_table.specs.SectionAnswers.{BecomesStruct, IsSectionSize, IsFilled, HasSymbolOffsets, StepsSection, named_as};
 
-use crate::sanitize::data_sec::entries::{members, placed_entries};
+use crate::sanitize::data_sec::entries::{members, place_entries};
 pub use crate::sanitize::data_sec::layout::known_offset;
 use crate::sanitize::data_sec::layout::section_size;
 use crate::sanitize::data_sec::name::new_name;
@@ -77,9 +68,8 @@ pub fn rewrite_section<F: FnMut(BtfFeature) -> bool, G: BuildHasher, H: BuildHas
     ensures further { IsFurther resolver.old.answers resolver.new.answers }
     ensures asks { AsksInPass btf.now (given_by request.now) (BtfType.DataSec data_sec.now)
         resolver.old.answers resolver.new.answers made.old }
-    ensures steps { StepsInPass btf.now (given_by request.now) (BtfType.DataSec data_sec.now)
-        resolver.old.answers resolver.new.answers made.old made.new
-        (λ new. unwrap_or new (BtfType.DataSec data_sec.now)) result }
+    ensures steps { StepsSection made.old made.new btf.now data_sec.now (given_by request.now)
+        resolver.old.answers resolver.new.answers result }
     ensures read { OnOk result
         (AreRead btf.now.strings
         (layout_of request.now.sections.now request.now.symbols.now) names.new) }
@@ -91,10 +81,10 @@ pub fn rewrite_section<F: FnMut(BtfFeature) -> bool, G: BuildHasher, H: BuildHas
     }
     let size = final_size(btf, request.sections, &mut names.sizes, data_sec)?;
     if wants_filler(data_sec, size, request.policy, resolver) {
-        return filled(made, btf, name_offset, size);
+        return fill(made, btf, name_offset, size);
     }
     if data_sec.size() != 0 {
-        return renamed(data_sec, name_offset);
+        return rename(data_sec, name_offset);
     }
     with_symbol_offsets(btf, request.symbols, names, data_sec, name_offset, size)
 }
@@ -110,12 +100,7 @@ fn as_struct(
     data_sec: &DataSec,
     name_offset: u32,
 ) -> Result<Option<BtfType>, BtfError>
-    ensures answer { (p : Pass) (lower : List Record) → p.table ≡ btf.now
-        → names.now ≡ map (λ (r : Record). r.name) lower
-        → IsOrNoMemory (λ new. record_of (unwrap_or new (BtfType.DataSec data_sec.now))) result
-        (checked (first_fault (flat_map (member_checks p) (entries data_sec.now.tail)))
-        (model.struct name_offset (vlen data_sec.now.info) (vlen data_sec.now.info)
-        (entry_members p lower (length lower) (entries data_sec.now.tail)))) }
+    ensures answer { BecomesStruct btf.now names.now data_sec.now name_offset result }
     ensures fallback { IfOk result (λ new. fallback_of
         (unwrap_or new (BtfType.DataSec data_sec.now)) ≡ None) }
 {
@@ -137,14 +122,7 @@ fn final_size<G: BuildHasher>(
 ) -> Result<u32, BtfError>
     requires { AreFound btf.now.strings (sizes_of sections.now) sizes.old }
     ensures own { (data_sec.now.third == 0) ≡ false → result ≡ Ok data_sec.now.third }
-    ensures section { (data_sec.now.third == 0) ≡ true → (p : Pass) → p.table ≡ btf.now
-        → p.layout.sections ≡ sizes_of sections.now
-        → IsOrNoMemory (λ n. n) result
-        (checked (first_fault
-        (name_is_read (text_at btf.now.strings data_sec.now.name)
-        ∷ is_sized (size_by_name p (text_at btf.now.strings data_sec.now.name))
-        (text_at btf.now.strings data_sec.now.name) ∷ []))
-        (unwrap_or (size_by_name p (text_at btf.now.strings data_sec.now.name)) 0)) }
+    ensures section { IsSectionSize btf.now data_sec.now (sizes_of sections.now) result }
     ensures found { OnOk result (AreFound btf.now.strings (sizes_of sections.now) sizes.new) }
 {
     if data_sec.size() != 0 {
@@ -193,19 +171,14 @@ fn wants_filler<F: FnMut(BtfFeature) -> bool>(
 ///
 /// Fails with `InvalidStringOffset` or `InvalidTypeInfo` if the filler does not fit in the strings or the types, and
 /// with `InvalidTypeInfo` if the entry does not fit in the types.
-fn filled(
+fn fill(
     made: &mut Made,
     btf: &Btf,
     name_offset: u32,
     size: u32,
 ) -> Result<Option<BtfType>, BtfError>
     requires { HasRoom btf.now made.old.changes }
-    ensures { (given : Given) (answers : List FeatureAnswer) (id : ℕ) (r : Record) (before : Made)
-        → HasNewName (pass_on btf.now given answers) id r name_offset before made.old
-        → gets_filler (pass_on btf.now given answers) id ≡ true
-        → final_size (pass_on btf.now given answers) id r ≡ Some size
-        → MeetsOrNoMemory (λ new. unwrap_or new (BtfType.DataSec r)) result
-        (Rules (pass_on btf.now given answers) id (BtfType.DataSec r) before made.new) }
+    ensures { IsFilled made.old made.new btf.now name_offset size result }
 {
     let filler = made.filler(btf)?;
     record_fits(made.changes.type_len, ENTRY_LEN)?;
@@ -221,10 +194,10 @@ fn filled(
 }
 
 /// The DATASEC with this name; None if it already has this name.
-fn renamed(data_sec: &DataSec, name_offset: u32) -> Result<Option<BtfType>, BtfError>
-    ensures answer { IsOrNoMemory
-        (λ new. record_of (unwrap_or new (BtfType.DataSec data_sec.now))) result
-        (Ok (record data_sec.now { name = name_offset })) }
+fn rename(data_sec: &DataSec, name_offset: u32) -> Result<Option<BtfType>, BtfError>
+    ensures answer { IsOrNoMemory (λ new. record_of
+        (unwrap_or new (BtfType.DataSec data_sec.now))) result
+        (named_as data_sec.now name_offset) }
     ensures fallback { IfOk result (λ new. fallback_of
         (unwrap_or new (BtfType.DataSec data_sec.now)) ≡ None) }
 {
@@ -252,11 +225,8 @@ fn with_symbol_offsets<H: BuildHasher>(
 ) -> Result<Option<BtfType>, BtfError>
     requires readable { IsReadableEnd btf.now.strings names.old.readable_end }
     requires found { AreFound btf.now.strings (offsets_of symbols.now) names.old.offsets }
-    ensures answer { (p : Pass) → p.table ≡ btf.now → p.layout.symbols ≡ offsets_of symbols.now
-        → IsOrNoMemory (λ new. record_of (unwrap_or new (BtfType.DataSec data_sec.now))) result
-        (checked (first_fault (flat_map (entry_checks p) (entries data_sec.now.tail)))
-        (model.made_data_sec name_offset size (vlen data_sec.now.info)
-        (map (placed p) (entries data_sec.now.tail)))) }
+    ensures answer { HasSymbolOffsets btf.now data_sec.now name_offset size
+        (offsets_of symbols.now) result }
     ensures fallback { IfOk result (λ new. fallback_of
         (unwrap_or new (BtfType.DataSec data_sec.now)) ≡ None) }
     ensures found { OnOk result
@@ -265,6 +235,6 @@ fn with_symbol_offsets<H: BuildHasher>(
         × (names.new.kept ≡ names.old.kept) × (names.new.sizes ≡ names.old.sizes) }
 {
     let end = names.readable_end;
-    let entries = placed_entries(btf, symbols, end, &mut names.offsets, data_sec)?;
+    let entries = place_entries(btf, symbols, end, &mut names.offsets, data_sec)?;
     Ok(Some(BtfType::DataSec(DataSec::new(name_offset, entries, size))))
 }

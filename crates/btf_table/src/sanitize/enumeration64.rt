@@ -1,21 +1,17 @@
 //! The rule of an ENUM64: a UNION that retains the ENUM64's values in its fallback.
 
-ghost use Rattle.std.specs.Prelude.{◌≡◌, ◌+◌, ◌*◌, ◌^◌, [], ◌∷◌, length, map, false, IfOk, OnOk, Ok, Some};
+ghost use Rattle.std.specs.Prelude.{◌≡◌, ◌+◌, ◌*◌, ◌^◌, length, map, false, IfOk, OnOk, Ok, Some};
 ghost use Rattle.std.specs.List.{flat_map};
-ghost use Rattle.btf_model.specs.Record.{vlen};
 ghost use Rattle.btf_rewrite_model.specs.declared.feature.BtfFeature.TheVariants as features;
 ghost use Rattle.btf_rewrite_model.specs.Made as model;
-ghost use Rattle.btf_rewrite_model.specs.Made.{byte_int, union, enum64_fallback};
-ghost use Rattle.btf_rewrite_model.specs.Checks.{first_fault};
-ghost use Rattle.btf_rewrite_model.specs.Pass.{has, member_type_text};
+ghost use Rattle.btf_rewrite_model.specs.Pass.{has};
 ghost use Rattle.btf_rewrite_model.specs.Rule.{variant_members};
-ghost use Rattle.btf_rewrite_model.specs.Fault.{member_type_has_room};
 ghost use Rattle.btf_plain.specs.Error.{IsOrNoMemory};
 ghost use Rattle.btf_plain.specs.Fallback.{fallback_variant};
 ghost use Rattle.btf_plain.specs.Items.{enum64_words, member_words};
-ghost use Rattle.btf_table.specs.Adding.{next_string_offset, next_id, HasRoom, Adds};
-ghost use Rattle.btf_table.specs.Checked.{checked};
+ghost use Rattle.btf_table.specs.Adding.{HasRoom};
 ghost use Rattle.btf_table.specs.PassStep.{FollowsRule};
+ghost use Rattle.btf_table.specs.Appended.{member_type_place, AddsMemberType, union_of};
 
 use crate::sanitize::made::Made;
 use crate::table::{Btf, Changes};
@@ -45,11 +41,8 @@ pub fn rewrite_enum64(made: &mut Made, btf: &Btf, enum64: &Enum64) -> Result<Btf
 /// the types.
 pub fn append_member_type(btf: &Btf, changes: &mut Changes) -> Result<u32, BtfError>
     requires { HasRoom btf.now changes.old }
-    ensures answer { IsOrNoMemory (λ id. id) result (checked (first_fault
-        (member_type_has_room (next_string_offset btf.now changes.old) changes.old.type_len))
-        (next_id btf.now changes.old)) }
-    ensures adds { OnOk result (Adds btf.now changes.old changes.new (member_type_text ∷ [])
-        (byte_int (next_string_offset btf.now changes.old) ∷ [])) }
+    ensures answer { IsOrNoMemory (λ id. id) result (member_type_place btf.now changes.old) }
+    ensures adds { OnOk result (AddsMemberType btf.now changes.old changes.new) }
 {
     let name_offset = changes.append_text(btf, MEMBER_TYPE)?;
     let int = Int::new(name_offset, 1, IntEncoding::None, 0);
@@ -59,18 +52,12 @@ pub fn append_member_type(btf: &Btf, changes: &mut Changes) -> Result<u32, BtfEr
 /// The ENUM64 as a UNION with a member for each variant, all of one type. The UNION's fallback retains the variants'
 /// values.
 fn as_union(alloc: Global, enum64: &Enum64, member_type: u32) -> Result<Union, BtfError>
-    ensures { IsOrNoMemory (λ u. u) result
-        (Ok (record {
-          words = union enum64.now.name enum64.now.third (vlen enum64.now.info)
-              (variant_members member_type (model.variants enum64.now.tail));
-          fallback = Some
-              (enum64_fallback enum64.now);
-        })) }
+    ensures { IsOrNoMemory (λ u. u) result (union_of enum64.now member_type) }
 {
     let members = variant_members(alloc, enum64.variants(), member_type)?;
     let fallback = Enum64Fallback {
         signed: enum64.is_signed(),
-        variants: kept_variants(alloc, enum64.variants())?,
+        variants: fallback_variants(alloc, enum64.variants())?,
     };
     Ok(Union::new(enum64.name_offset(), enum64.size(), members, Some(fallback)))
 }
@@ -97,7 +84,7 @@ fn variant_members(
 }
 
 /// The variants, each with its 64-bit value in one number.
-fn kept_variants(
+fn fallback_variants(
     alloc: Global,
     variants: &[BtfEnum64],
 ) -> Result<Vec<Enum64VariantFallback>, AllocError>

@@ -1,17 +1,11 @@
 //! The features of a kernel's BTF, as a caller's predicate reports them, and what a type of one feature asks for.
 
-ghost use Rattle.std.specs.Prelude.{◌≡◌, ℕ, [], true, IfOk};
+ghost use Rattle.std.specs.Prelude.{◌≡◌, [], true, IfOk};
 ghost use Rattle.btf_model.specs.Record as kinds;
-ghost use Rattle.btf_model.specs.Record.{kind_of};
-ghost use Rattle.btf_model.specs.Table.{Table};
 ghost use Rattle.btf_rewrite_model.specs.Feature.{is_signed, answer_to as answer_of};
-ghost use Rattle.btf_rewrite_model.specs.Pass.{asks_below};
-ghost use Rattle.btf_rewrite_model.specs.Passing.{AreAnswersTo};
 ghost use Rattle.btf_records.specs.BtfType.{record_of, type_kind};
-ghost use Rattle.btf_table.specs.Btf.{IsType};
 ghost use Rattle.btf_table.specs.Features.{AsksResolver, CallsFurther, IsFurther};
-ghost use Rattle.btf_table.specs.PassStep.{Given, pass_on, AsksUpTo};
-ghost use Rattle.btf_table.specs.SoleFeature.{asks_one, feature_of, IsGranted};
+ghost use Rattle.btf_table.specs.SoleFeature.{feature_of, AsksSole, GrantsSole};
 
 use arrayvec::ArrayVec;
 use btf_plain::BtfKind;
@@ -77,7 +71,7 @@ impl<F: FnMut(BtfFeature) -> bool> BtfFeatureResolver<F> {
 }
 
 /// A copy of a resolver's answers so far. It does not borrow the resolver, and allocates only room for eight answers.
-pub fn copied_answers<F>(
+pub fn copy_answers<F>(
     resolver: &BtfFeatureResolver<F>,
 ) -> Result<ArrayVec<FeatureAnswer, 8>, AllocError>
     ensures { IfOk result (λ a. a.items ≡ resolver.now.answers) }
@@ -107,16 +101,8 @@ pub fn has_sole_feature<F: FnMut(BtfFeature) -> bool>(
     ensures callable { F.IsAlwaysCallable resolver.new.predicate }
     ensures called { CallsFurther F.step resolver.old resolver.new }
     ensures further { IsFurther resolver.old.answers resolver.new.answers }
-    ensures asks { (t : Table) (given : Given) (id : ℕ) → IsType t id btf_type.now
-        → asks_one (kind_of (record_of btf_type.now).info) ≡ true
-        → AreAnswersTo (asks_below (pass_on t given resolver.old.answers) id)
-        resolver.old.answers
-        → AsksUpTo (pass_on t given resolver.old.answers) id resolver.new.answers [] }
-    ensures granted { (t : Table) (given : Given) (id : ℕ)
-        → AreAnswersTo (asks_below (pass_on t given resolver.old.answers) id)
-        resolver.old.answers
-        → IsGranted (pass_on t given resolver.new.answers)
-        (feature_of (record_of btf_type.now)) result }
+    ensures asks { AsksSole btf_type.now resolver.old.answers resolver.new.answers }
+    ensures granted { GrantsSole btf_type.now resolver.old.answers resolver.new.answers result }
 {
     match sole_feature(btf_type) {
         Some(feature) => resolver.is_supported(feature),

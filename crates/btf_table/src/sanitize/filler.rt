@@ -1,12 +1,10 @@
 //! The entry that an empty DATASEC gets.
 
-ghost use Rattle.std.specs.Prelude.{◌+◌, [], ◌∷◌, OnOk};
-ghost use Rattle.btf_rewrite_model.specs.Checks.{first_fault};
-ghost use Rattle.btf_rewrite_model.specs.Pass.{filler_type_text, filler_text, filler};
+ghost use Rattle.std.specs.Prelude.{OnOk};
+ghost use Rattle.btf_rewrite_model.specs.Pass.{filler};
 ghost use Rattle.btf_plain.specs.Error.{IsOrNoMemory};
-ghost use Rattle.btf_table.specs.Adding.{next_string_offset, next_id, HasRoom, Adds};
-ghost use Rattle.btf_table.specs.Checked.{checked};
-ghost use Rattle.btf_rewrite_model.specs.Fault.{filler_has_room};
+ghost use Rattle.btf_table.specs.Adding.{HasRoom};
+ghost use Rattle.btf_table.specs.Appended.{filler_place, AddsFiller};
 
 use crate::table::{Btf, Changes};
 use btf_plain::{BtfError, Int, IntEncoding, Var, VarLinkage};
@@ -23,12 +21,8 @@ const FILLER: &str = "__aya_datasec_filler";
 /// Fails with `InvalidStringOffset` or `InvalidTypeInfo` if the filler does not fit in the strings or the types.
 pub fn append_filler(btf: &Btf, changes: &mut Changes) -> Result<u32, BtfError>
     requires { HasRoom btf.now changes.old }
-    ensures answer { IsOrNoMemory (λ id. id) result (checked (first_fault
-        (filler_has_room (next_string_offset btf.now changes.old) changes.old.type_len))
-        (next_id btf.now changes.old + 1)) }
-    ensures adds { OnOk result (Adds btf.now changes.old changes.new
-        (filler_type_text ∷ filler_text ∷ [])
-        (filler (next_string_offset btf.now changes.old) (next_id btf.now changes.old))) }
+    ensures answer { IsOrNoMemory (λ id. id) result (filler_place btf.now changes.old) }
+    ensures adds { OnOk result (AddsFiller btf.now changes.old changes.new) }
 {
     let type_name = changes.append_text(btf, FILLER_TYPE)?;
     let int = Int::new(type_name, 1, IntEncoding::None, 0);

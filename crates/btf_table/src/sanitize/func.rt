@@ -1,17 +1,12 @@
 //! The rule of a FUNC, and FUNCs with another linkage.
 
-ghost use Rattle.std.specs.Prelude.{◌≡◌, ℕ, List, IfOk, Ok};
+ghost use Rattle.std.specs.Prelude.{◌≡◌, IfOk, Ok};
 ghost use Rattle.btf_rewrite_model.specs.declared.feature.BtfFeature.{BtfFeature};
 ghost use Rattle.btf_rewrite_model.specs.Made.{with_linkage};
-ghost use Rattle.btf_rewrite_model.specs.Pass.{asks_below};
-ghost use Rattle.btf_rewrite_model.specs.Passing.{AreAnswersTo};
-ghost use Rattle.btf_plain.specs.Error.{MeetsOrNoMemory};
 ghost use Rattle.btf_table.specs.Builtins.{begins_builtin};
 ghost use Rattle.btf_table.specs.Features.{CallsFurther, IsFurther};
-ghost use Rattle.btf_table.specs.Btf.{IsType};
-ghost use Rattle.btf_table.specs.PassStep.{Given, pass_on, Comes, AsksUpTo, Steps, made_of};
 ghost use Rattle.btf_table.specs.Readable.{IsReadableEnd};
-ghost use Rattle.btf_table.specs.declared.sanitize.made.Made as made;
+ghost use Rattle.btf_table.specs.TypeStep.{AsksFunc, StepsFunc};
 
 use crate::sanitize::features::BtfFeatureResolver;
 use crate::sanitize::outcome::Outcome;
@@ -37,18 +32,9 @@ pub fn rewrite_func<F: FnMut(BtfFeature) -> bool>(
     ensures callable { F.IsAlwaysCallable resolver.new.predicate }
     ensures called { CallsFurther F.step resolver.old resolver.new }
     ensures further { IsFurther resolver.old.answers resolver.new.answers }
-    ensures asks { (given : Given) (id : ℕ) → IsType btf.now id (BtfType.Func func.now)
-        → AreAnswersTo (asks_below (pass_on btf.now given resolver.old.answers) id)
-        resolver.old.answers
-        → (left : List BtfFeature)
-        × AsksUpTo (pass_on btf.now given resolver.old.answers) id
-        resolver.new.answers left }
-    ensures steps { (given : Given) (id : ℕ) (made : made.Made)
-        → Comes btf.now given id (BtfType.Func func.now) resolver.old.answers
-        resolver.new.answers made
-        → MeetsOrNoMemory (λ o. made_of o (BtfType.Func func.now)) result
-        (Steps (pass_on btf.now given resolver.old.answers) id resolver.new.answers
-        (BtfType.Func func.now) made made) }
+    ensures asks { AsksFunc btf.now func.now resolver.old.answers resolver.new.answers }
+    ensures steps { StepsFunc btf.now func.now resolver.old.answers
+        resolver.new.answers result }
 {
     let name_offset = func.name_offset();
     btf.check_name(name_offset, readable_end)?;
@@ -59,12 +45,12 @@ pub fn rewrite_func<F: FnMut(BtfFeature) -> bool>(
         return Ok(Outcome::Same);
     };
     if is_builtin(btf.strings_from(name_offset)) {
-        return Ok(Outcome::Other(BtfType::Func(made_static(func)?)));
+        return Ok(Outcome::Other(BtfType::Func(make_static(func)?)));
     }
     if resolver.is_supported(BtfFeature::FuncGlobal) {
         return Ok(Outcome::Same);
     }
-    Ok(Outcome::Other(BtfType::Func(made_static(func)?)))
+    Ok(Outcome::Other(BtfType::Func(make_static(func)?)))
 }
 
 /// Whether the name at the front of these strings is the name of a function that compilers emit as Global, and that
@@ -79,7 +65,7 @@ fn is_builtin(strings: &[u8]) -> bool
 }
 
 /// The function with Static linkage.
-fn made_static(func: &Func) -> Result<Func, AllocError>
+fn make_static(func: &Func) -> Result<Func, AllocError>
     ensures { IfOk result (λ r. r ≡ with_linkage 0 func.now) }
 {
     let mut func = func.clone()?;

@@ -2,20 +2,15 @@
 
 ghost use Rattle.std.specs.Prelude.{◌≡◌, if◌then◌else◌, [], string_bytes, IfOk, OnOk, Ok};
 ghost use Rattle.std.specs.List.{list_any};
-ghost use Rattle.std.specs.Option.{unwrap_or};
-ghost use Rattle.btf_rewrite_model.specs.declared.feature.BtfFeature.TheVariants as features;
 ghost use Rattle.btf_rewrite_model.specs.Ksyms.{named_parameters};
 ghost use Rattle.btf_rewrite_model.specs.Made.{wants_name};
-ghost use Rattle.btf_rewrite_model.specs.Checks.{first_fault, have_room};
 ghost use Rattle.btf_rewrite_model.specs.Pass as model;
 ghost use Rattle.btf_rewrite_model.specs.Pass.{has, param_texts};
-ghost use Rattle.btf_rewrite_model.specs.Rule.{named_params};
 ghost use Rattle.btf_plain.specs.Error.{IsOrNoMemory};
 ghost use Rattle.btf_plain.specs.Items.{param_words};
-ghost use Rattle.btf_table.specs.Adding.{next_string_offset, HasRoom, Adds};
-ghost use Rattle.btf_table.specs.Checked.{checked};
-ghost use Rattle.btf_table.specs.Params.{lack_a_name};
-ghost use Rattle.btf_table.specs.PassStep.{FollowsRule};
+ghost use Rattle.btf_table.specs.Adding.{HasRoom, Adds};
+ghost use Rattle.btf_table.specs.Params.{lack_a_name, proto_named, param_name_place};
+ghost use Rattle.btf_table.specs.TypeStep.{RewritesProto};
 
 use crate::sanitize::made::Made;
 use crate::table::{Btf, Changes};
@@ -33,9 +28,7 @@ pub fn rewrite_proto(
     granted: bool,
 ) -> Result<Option<BtfType>, BtfError>
     requires { HasRoom btf.now made.old.changes }
-    ensures { FollowsRule btf.now (BtfType.FuncProto proto.now)
-        (λ p. has p features.Func ≡ granted) made.old made.new
-        (λ new. unwrap_or new (BtfType.FuncProto proto.now)) result }
+    ensures { RewritesProto made.old made.new btf.now proto.now granted result }
 {
     if !granted {
         return Ok(Some(BtfType::Enum(as_enum(proto)?)));
@@ -76,13 +69,7 @@ fn with_param_names(
     proto: &FuncProto,
 ) -> Result<FuncProto, BtfError>
     requires { HasRoom btf.now changes.old }
-    ensures answer { IsOrNoMemory (λ r. r) result
-        (checked (first_fault (have_room (next_string_offset btf.now changes.old)
-        (param_texts 0 proto.now.tail)))
-        (record proto.now {
-          tail = named_params 0
-              (next_string_offset btf.now changes.old) proto.now.tail;
-        })) }
+    ensures answer { IsOrNoMemory (λ r. r) result (proto_named btf.now changes.old proto.now) }
     ensures adds { OnOk result (Adds btf.now changes.old changes.new
         (param_texts 0 proto.now.tail) []) }
 {
@@ -104,11 +91,7 @@ fn param_name_offset(
 ) -> Result<u32, BtfError>
     requires { HasRoom btf.now changes.old }
     ensures answer { IsOrNoMemory (λ offset. offset) result
-        (checked (first_fault (have_room (next_string_offset btf.now changes.old)
-        (param_texts index (param_words param.now))))
-        (if wants_name param.now.name_offset param.now.btf_type then next_string_offset btf.now
-        changes.old
-        else param.now.name_offset)) }
+        (param_name_place btf.now changes.old index param.now) }
     ensures adds { OnOk result (Adds btf.now changes.old changes.new
         (param_texts index (param_words param.now)) []) }
 {

@@ -1,22 +1,18 @@
 //! The rule of the kinds that change in place: it asks for at most one feature, is never refused, appends nothing, and
 //! allocates no memory.
 
-ghost use Rattle.std.specs.Prelude.{◌≡◌, ℕ, List, None, Some, length, true, if◌then◌else◌};
-ghost use Rattle.btf_model.specs.Record.{Record, kind_of};
+ghost use Rattle.std.specs.Prelude.{◌≡◌, None, Some, length, if◌then◌else◌};
+ghost use Rattle.btf_model.specs.Record.{kind_of};
 ghost use Rattle.btf_rewrite_model.specs.Made as model;
-ghost use Rattle.btf_rewrite_model.specs.Pass.{Pass};
-ghost use Rattle.btf_rewrite_model.specs.Rule.{becomes_by};
-ghost use Rattle.btf_rewrite_model.specs.Passing.{is_quiet};
 ghost use Rattle.btf_records.specs.BtfType.{record_of, fallback_of, type_kind};
 ghost use Rattle.btf_table.specs.Adding.{HasRoom};
 ghost use Rattle.btf_table.specs.InPlace.{denied, denied_type};
-ghost use Rattle.btf_table.specs.PassStep.{FollowsRule, made_of};
-ghost use Rattle.btf_table.specs.SoleFeature.{asks_one, feature_of, IsGranted};
+ghost use Rattle.btf_table.specs.TypeStep.{RewritesBy, ChangesInPlace};
 
 use crate::sanitize::enumeration64::rewrite_enum64;
 use crate::sanitize::func_proto::rewrite_proto;
 use crate::sanitize::made::Made;
-use crate::sanitize::outcome::{Outcome, placed};
+use crate::sanitize::outcome::{Outcome, outcome_of};
 use crate::table::Btf;
 use btf_plain::{BtfError, BtfKind, Const, Int, IntEncoding, Typedef};
 use btf_records::{BtfType, Struct};
@@ -32,13 +28,10 @@ pub fn rewrite_by(
     granted: bool,
 ) -> Result<Outcome, BtfError>
     requires { HasRoom btf.now made.old.changes }
-    ensures { asks_one (kind_of (record_of btf_type.now).info) ≡ true
-        → FollowsRule btf.now btf_type.now
-        (λ p. IsGranted p (feature_of (record_of btf_type.now)) granted) made.old made.new
-        (λ outcome. made_of outcome btf_type.now) result }
+    ensures { RewritesBy made.old made.new btf.now btf_type.now granted result }
 {
     match btf_type {
-        BtfType::FuncProto(proto) => placed(rewrite_proto(made, btf, proto, granted)),
+        BtfType::FuncProto(proto) => outcome_of(rewrite_proto(made, btf, proto, granted)),
         BtfType::Enum64(enum64) if !granted => {
             Ok(Outcome::Other(rewrite_enum64(made, btf, enum64)?))
         }
@@ -51,11 +44,7 @@ pub fn rewrite_by(
 /// Whether a type changes in place, as `deny` changes it: a PTR that has a name does, and so does a type that asks for
 /// a feature that is not granted. Not for a FUNC, because its rule asks for more.
 fn changes_in_place(btf_type: &BtfType, granted: bool) -> bool
-    ensures words { (p : Pass) (lower : List Record) (id : ℕ)
-        → IsGranted p (feature_of (record_of btf_type.now)) granted
-        → is_quiet (kind_of (record_of btf_type.now).info) ≡ true
-        → record_of (if result then denied_type btf_type.now else btf_type.now)
-        ≡ becomes_by p lower id (kind_of (record_of btf_type.now).info) (record_of btf_type.now) }
+    ensures words { ChangesInPlace btf_type.now granted result }
     ensures len { length (record_of (if result then denied_type btf_type.now
         else btf_type.now)).tail ≡ length (record_of btf_type.now).tail }
     ensures fallback { fallback_of (if result then denied_type btf_type.now else btf_type.now)

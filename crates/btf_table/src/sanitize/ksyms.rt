@@ -6,11 +6,11 @@ ghost use Rattle.btf_model.specs.Record.{Record, unknown, kind_of};
 ghost use Rattle.btf_rewrite_model.specs.Made.{Entry, entries, record_at};
 ghost use Rattle.btf_rewrite_model.specs.Checks.{first_fault};
 ghost use Rattle.btf_rewrite_model.specs.Ksyms as model;
-ghost use Rattle.btf_rewrite_model.specs.Ksyms.{placeholder_checks, data_sec_checks, ksyms_entry_checks};
+ghost use Rattle.btf_rewrite_model.specs.Ksyms.{placeholder_checks, data_sec_checks};
 ghost use Rattle.btf_plain.specs.Error.{IsOrNoMemory, MeetsOrNoMemory};
 ghost use Rattle.btf_records.specs.BtfType.{record_of, fallback_of};
 ghost use Rattle.btf_table.specs.Checked.{checked};
-ghost use Rattle.btf_table.specs.KsymsStep.{symbol_target, prototype_of, laid_out_anew, FindsSymbols, StepsWith, ksyms_ids, MakesKsyms};
+ghost use Rattle.btf_table.specs.KsymsStep.{symbol_target, FindsSymbols, StepsWith, ksyms_ids, MakesKsyms, symbol_prototype_of, HasSymbolNames, IsLaidOutLike, IsLaidOut, MakesType};
 ghost use Rattle.btf_table.specs.Readable.{IsReadableEnd};
 
 use crate::sanitize::func::global;
@@ -172,9 +172,7 @@ fn symbol_prototype(
 ) -> Result<Option<u32>, BtfError>
     requires { IsReadableEnd btf.now.strings readable_end }
     ensures { (e : Entry) → e.type ≡ id
-        → IsOrNoMemory (λ p. p) result
-        (checked (first_fault (ksyms_entry_checks btf.now placeholder_id e))
-        (prototype_of btf.now id)) }
+        → IsOrNoMemory (λ p. p) result (symbol_prototype_of e btf.now id placeholder_id) }
 {
     let symbol = btf.type_by_id(id)?;
     match symbol {
@@ -222,8 +220,6 @@ pub fn global_of(var: &Var, btf_type: u32) -> Var
 
 impl Target {
     ghost use Rattle.std.specs.Prelude.{IfSome};
-    ghost use Rattle.std.specs.Option.{unwrap_or};
-    ghost use Rattle.btf_model.specs.Table.{Table};
     ghost use Rattle.btf_rewrite_model.specs.Ksyms.{entry_type};
     ghost use Rattle.btf_table.specs.KsymsStep.{IsLike};
 
@@ -246,10 +242,7 @@ impl Target {
 
     /// What the prototype of a function among the symbols becomes; None if it is unchanged.
     fn new_proto(&self, proto: &FuncProto) -> Result<Option<BtfType>, BtfError>
-        ensures words { (t : Table) (placeholder : Option ℕ) → self.now ≡ symbol_target t
-            placeholder
-            → IsOrNoMemory (λ new. record_of (unwrap_or new (BtfType.FuncProto proto.now))) result
-            (Ok (record proto.now { tail = model.with_names t placeholder proto.now.tail })) }
+        ensures words { HasSymbolNames self.now proto.now result }
         ensures like { IfOk result (λ new. IfSome new (IsLike (BtfType.FuncProto proto.now))) }
     {
         let Some(placeholder) = self.placeholder else {
@@ -260,11 +253,9 @@ impl Target {
     }
 
     /// The DATASEC, with 4 bytes for each entry, one after the other.
-    fn laid_out(&self, btf: &Btf, data_sec: &DataSec) -> Result<DataSec, BtfError>
-        ensures like { (placeholder : Option ℕ) → self.now ≡ symbol_target btf.now placeholder
-            → IfOk result (λ s. IsLike (BtfType.DataSec data_sec.now) (BtfType.DataSec s)) }
-        ensures words { (placeholder : Option ℕ) → self.now ≡ symbol_target btf.now placeholder
-            → IsOrNoMemory (λ s. s) result (Ok (laid_out_anew btf.now placeholder data_sec.now)) }
+    fn lay_out(&self, btf: &Btf, data_sec: &DataSec) -> Result<DataSec, BtfError>
+        ensures like { IsLaidOutLike self.now btf.now data_sec.now result }
+        ensures words { IsLaidOut self.now btf.now data_sec.now result }
     {
         let mut laid_out = data_sec.try_clone()?;
         for (index, entry) in data_sec.entries().iter().enumerate() {
@@ -290,9 +281,8 @@ struct Step {
 
 impl Step {
     ghost use Rattle.std.specs.Prelude.{IfSome, Some, slice_get};
-    ghost use Rattle.std.specs.Option.{unwrap_or};
     ghost use Rattle.btf_rewrite_model.specs.declared.ksyms_ids.KsymsIds.{KsymsIds};
-    ghost use Rattle.btf_table.specs.KsymsStep.{IsStep, step_record, IsLike, StepsAll};
+    ghost use Rattle.btf_table.specs.KsymsStep.{IsStep, IsLike, StepsAll};
 
     /// The step over a table, or why it is refused.
     fn new(btf: &Btf, datasec_id: u32, placeholder_id: Option<u32>) -> Result<Step, BtfError>
@@ -313,9 +303,7 @@ impl Step {
     /// The type that the type of an id becomes; None if it is unchanged.
     fn new_type(&self, btf: &Btf, id: u32, btf_type: &BtfType) -> Result<Option<BtfType>, BtfError>
         requires { slice_get btf.now.records id ≡ Some (record_of btf_type.now) }
-        ensures words { (ids : KsymsIds) → IsStep btf.now ids self.now
-            → IsOrNoMemory (λ new. record_of (unwrap_or new btf_type.now)) result
-            (Ok (step_record btf.now ids id (record_of btf_type.now))) }
+        ensures words { MakesType self.now btf.now id btf_type.now result }
         ensures like { (ids : KsymsIds) → IsStep btf.now ids self.now
             → IfOk result (λ new. IfSome new (IsLike btf_type.now)) }
     {
@@ -332,7 +320,7 @@ impl Step {
                 self.target.new_proto(proto)
             }
             BtfType::DataSec(data_sec) if id == self.datasec_id => {
-                Ok(Some(BtfType::DataSec(self.target.laid_out(btf, data_sec)?)))
+                Ok(Some(BtfType::DataSec(self.target.lay_out(btf, data_sec)?)))
             }
             _ => Ok(None),
         }

@@ -1,15 +1,12 @@
 //! What a pass has made so far.
 
 ghost use Rattle.std.specs.Prelude.{◌≡◌, ◌+◌, ◌++◌, ◌<◌, [], ◌∷◌, length, None, Some, IfOk, OnOk, Ok};
-ghost use Rattle.btf_rewrite_model.specs.Made.{byte_int};
-ghost use Rattle.btf_rewrite_model.specs.Checks.{first_fault};
-ghost use Rattle.btf_rewrite_model.specs.Pass.{member_type_text, filler_type_text, filler_text, filler};
+ghost use Rattle.btf_rewrite_model.specs.Pass.{filler};
 ghost use Rattle.btf_model.specs.Table.{type_bytes};
 ghost use Rattle.btf_plain.specs.Error.{IsOrNoMemory};
 ghost use Rattle.btf_records.specs.BtfType.{record_of};
-ghost use Rattle.btf_table.specs.Adding.{next_string_offset, next_id, HasRoom, Adds};
-ghost use Rattle.btf_table.specs.Checked.{checked};
-ghost use Rattle.btf_rewrite_model.specs.Fault.{filler_has_room, member_type_has_room};
+ghost use Rattle.btf_table.specs.Adding.{next_id, HasRoom};
+ghost use Rattle.btf_table.specs.Appended.{member_type_place, AddsMemberType, filler_place, AddsFiller};
 
 use crate::sanitize::enumeration64::append_member_type;
 use crate::sanitize::filler::append_filler;
@@ -65,12 +62,9 @@ impl Made {
         ensures there { (id : _) → self.old.member_type ≡ Some id → (result ≡ Ok id)
             × (self.new ≡ self.old) }
         ensures answer { self.old.member_type ≡ None
-            → IsOrNoMemory (λ id. id) result (checked (first_fault
-            (member_type_has_room (next_string_offset btf.now self.old.changes)
-            self.old.changes.type_len)) (next_id btf.now self.old.changes)) }
+            → IsOrNoMemory (λ id. id) result (member_type_place btf.now self.old.changes) }
         ensures adds { self.old.member_type ≡ None
-            → OnOk result (Adds btf.now self.old.changes self.new.changes (member_type_text ∷ [])
-            (byte_int (next_string_offset btf.now self.old.changes) ∷ [])) }
+            → OnOk result (AddsMemberType btf.now self.old.changes self.new.changes) }
         ensures made { self.old.member_type ≡ None
             → OnOk result (self.new.member_type ≡ Some (next_id btf.now self.old.changes)) }
         ensures names { self.new.names ≡ self.old.names }
@@ -91,15 +85,9 @@ impl Made {
         ensures there { (id : _) → self.old.filler ≡ Some id → (result ≡ Ok id)
             × (self.new ≡ self.old) }
         ensures answer { self.old.filler ≡ None
-            → IsOrNoMemory (λ id. id) result (checked (first_fault
-            (filler_has_room (next_string_offset btf.now self.old.changes)
-            self.old.changes.type_len))
-            (next_id btf.now self.old.changes + 1)) }
+            → IsOrNoMemory (λ id. id) result (filler_place btf.now self.old.changes) }
         ensures adds { self.old.filler ≡ None
-            → OnOk result (Adds btf.now self.old.changes self.new.changes
-            (filler_type_text ∷ filler_text ∷ [])
-            (filler (next_string_offset btf.now self.old.changes)
-            (next_id btf.now self.old.changes))) }
+            → OnOk result (AddsFiller btf.now self.old.changes self.new.changes) }
         ensures made { self.old.filler ≡ None
             → OnOk result (self.new.filler ≡ Some (next_id btf.now self.old.changes + 1)) }
         ensures names { self.new.names ≡ self.old.names }

@@ -19,7 +19,7 @@ pub enum Outcome {
 }
 
 /// The outcome of a rule that replaces the type, or leaves it unchanged if there is None.
-pub fn placed(made: Result<Option<BtfType>, BtfError>) -> Result<Outcome, BtfError>
+pub fn outcome_of(made: Result<Option<BtfType>, BtfError>) -> Result<Outcome, BtfError>
     ensures { result ≡ result_map_both rule_outcome (λ e. e) made }
 {
     match made {

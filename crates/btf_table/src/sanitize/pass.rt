@@ -1,27 +1,21 @@
 //! The pass of a rewrite over all types of a table.
 
-ghost use Rattle.std.specs.Prelude.{◌≡◌, ℕ, List, [], Some, OnOk, true};
-ghost use Rattle.btf_model.specs.Record.{kind_of};
+ghost use Rattle.std.specs.Prelude.{◌≡◌, [], OnOk};
 ghost use Rattle.btf_rewrite_model.specs.declared.feature.BtfFeature.{BtfFeature};
-ghost use Rattle.btf_rewrite_model.specs.Pass.{asks_below};
-ghost use Rattle.btf_model.specs.Table.{Table};
-ghost use Rattle.btf_rewrite_model.specs.Passing.{AreAnswersTo};
 ghost use Rattle.btf_plain.specs.Error.{MeetsOrNoMemory};
-ghost use Rattle.btf_records.specs.BtfType.{record_of};
 ghost use Rattle.btf_table.specs.Adding.{HasRoom};
 ghost use Rattle.btf_table.specs.Features.{Called, CallsFurther, IsFurther};
 ghost use Rattle.btf_table.specs.Layout.{layout_of};
-ghost use Rattle.btf_table.specs.Btf.{IsType};
-ghost use Rattle.btf_table.specs.PassStep.{Given, pass_on, given_by, Comes, AsksUpTo, AsksInPass, StepsInPass, Passes, BeginsAsked, made_of};
-ghost use Rattle.btf_table.specs.SoleFeature.{asks_one, feature_of, IsGranted};
+ghost use Rattle.btf_table.specs.PassStep.{pass_on, given_by, AsksInPass, Passes, BeginsAsked};
 ghost use Rattle.btf_table.specs.ReadNames.{AreRead};
+ghost use Rattle.btf_table.specs.TypeStep.{StepsType};
 
 use crate::sanitize::data_sec::rewrite_section;
 use crate::sanitize::features::{BtfFeatureResolver, has_sole_feature};
 use crate::sanitize::func::rewrite_func;
 use crate::sanitize::in_place::rewrite_by;
 use crate::sanitize::made::Made;
-use crate::sanitize::outcome::{Outcome, placed};
+use crate::sanitize::outcome::{Outcome, outcome_of};
 use crate::sanitize::read_names::ReadNames;
 use crate::sanitize::request::Request;
 use crate::table::{Btf, Changes};
@@ -52,9 +46,8 @@ fn rewrite_type<F: FnMut(BtfFeature) -> bool, G: BuildHasher, H: BuildHasher>(
     ensures further { IsFurther resolver.old.answers resolver.new.answers }
     ensures asks { AsksInPass btf.now (given_by request.now) btf_type.now
         resolver.old.answers resolver.new.answers made.old }
-    ensures steps { StepsInPass btf.now (given_by request.now) btf_type.now
-        resolver.old.answers resolver.new.answers made.old made.new
-        (λ o. made_of o btf_type.now) result }
+    ensures steps { StepsType made.old made.new btf.now btf_type.now
+        (given_by request.now) resolver.old.answers resolver.new.answers result }
     ensures read { OnOk result
         (AreRead btf.now.strings
         (layout_of request.now.sections.now request.now.symbols.now) names.new) }
@@ -62,7 +55,7 @@ fn rewrite_type<F: FnMut(BtfFeature) -> bool, G: BuildHasher, H: BuildHasher>(
     match btf_type {
         BtfType::Func(func) => rewrite_func(btf, func, names.readable_end, resolver),
         BtfType::DataSec(data_sec) => {
-            placed(rewrite_section(made, btf, request, data_sec, names, resolver))
+            outcome_of(rewrite_section(made, btf, request, data_sec, names, resolver))
         }
         _ => {
             let granted = has_sole_feature(btf_type, resolver);

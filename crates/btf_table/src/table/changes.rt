@@ -4,6 +4,7 @@ ghost use Rattle.std.specs.Prelude.{◌≡◌, length, OnOk, OnErr, IfOk, IfErr}
 ghost use Rattle.btf_model.specs.Table.{Table};
 ghost use Rattle.btf_table.specs.Denied.{AreDenied, AreTypeIds, with_denied};
 ghost use Rattle.btf_table.specs.Changes.{put_all, put_back, before_changes, changed, AreInside, AreChangesOf, Undoes};
+ghost use Rattle.btf_table.specs.Adding.{text_place};
 
 use crate::sanitize::deny;
 use crate::table::Btf;
@@ -31,9 +32,9 @@ impl Changes {
     ghost use Rattle.btf_model.specs.Table.{section_limit, type_bytes};
     ghost use Rattle.btf_records.specs.BtfType.{record_of, fallback_of};
     ghost use Rattle.std.specs.Prelude.{None};
-    ghost use Rattle.btf_rewrite_model.specs.Checks.{has_room, fits, record_len};
+    ghost use Rattle.btf_rewrite_model.specs.Checks.{fits, record_len};
     ghost use Rattle.btf_plain.specs.Error.{IsOrNoMemory};
-    ghost use Rattle.btf_table.specs.Adding.{next_string_offset, next_id, HasRoom, Adds};
+    ghost use Rattle.btf_table.specs.Adding.{next_id, HasRoom, Adds};
     ghost use Rattle.btf_table.specs.Checked.{checked};
 
     /// No changes of a table.
@@ -58,8 +59,7 @@ impl Changes {
     pub fn append_text(&mut self, btf: &Btf, text: &str) -> Result<u32, BtfError>
         requires { HasRoom btf.now self.old }
         ensures answer { IsOrNoMemory (λ offset. offset) result
-            (checked (has_room (next_string_offset btf.now self.old) text.now)
-            (next_string_offset btf.now self.old)) }
+            (text_place self.old btf.now text.now) }
         ensures adds { OnOk result (Adds btf.now self.old self.new (text.now ∷ []) []) }
     {
         let offset = btf.string_len() + self.new_strings.len();

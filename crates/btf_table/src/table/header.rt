@@ -1,8 +1,8 @@
 //! The header of a blob.
 
-ghost use Rattle.std.specs.Prelude.{◌≡◌, ◌+◌, ◌<◌, ◌≤◌, ◌++◌, length, MatchResult, MatchOption, OnOk};
-ghost use Rattle.btf_model.specs.Blob.{header_len, header_of, header_bytes, slice};
-ghost use Rattle.btf_table.specs.Header.{model_header};
+ghost use Rattle.std.specs.Prelude.{◌≡◌, ◌+◌, ◌<◌, ◌++◌, length, OnOk};
+ghost use Rattle.btf_model.specs.Blob.{header_bytes};
+ghost use Rattle.btf_table.specs.Header.{model_header, ReadsHeader, IsSection};
 
 use btf_plain::{BtfError, Endianness};
 use std::alloc::AllocError;
@@ -26,10 +26,7 @@ pub struct Header {
 
 /// `len` bytes of the data from an offset on, which counts from the end of the header. None if they exceed the data.
 pub fn section(data: &[u8], hdr_len: u32, offset: u32, len: u32) -> Option<&[u8]>
-    ensures { MatchOption result
-        (length «data».now < hdr_len + offset + len)
-        (λ s. (hdr_len + offset + len ≤ length «data».now)
-        × (s.now ≡ slice (hdr_len + offset) len «data».now)) }
+    ensures { IsSection «data».now hdr_len offset len result }
 {
     let start = hdr_len as usize + offset as usize;
     data.get(start..start + len as usize)
@@ -38,10 +35,7 @@ pub fn section(data: &[u8], hdr_len: u32, offset: u32, len: u32) -> Option<&[u8]
 impl Header {
     /// The header at the front of the data, or `InvalidHeader` if there are fewer than 24 bytes.
     pub fn read(data: &[u8], endianness: Endianness) -> Result<Header, BtfError>
-        ensures { MatchResult result
-            (λ h. (header_len ≤ length «data».now)
-            × (model_header h ≡ header_of endianness «data».now))
-            (λ e. (length «data».now < header_len) × (e ≡ BtfError.InvalidHeader)) }
+        ensures { ReadsHeader «data».now endianness result }
     {
         let Some(bytes) = data.first_chunk::<24>() else {
             return Err(BtfError::InvalidHeader);

@@ -1,9 +1,9 @@
 //! A table after another one: the types of a kernel module after those of the kernel.
 
-ghost use Rattle.std.specs.Prelude.{◌≡◌, ◌≤◌, ◌<◌, length, take, OnErr, Ok};
+ghost use Rattle.std.specs.Prelude.{◌≡◌, ◌≤◌, ◌<◌, length, OnErr, Ok};
 ghost use Rattle.btf_model.specs.Table.{type_bytes};
 ghost use Rattle.btf_plain.specs.Error.{IsOrNoMemory, Meets, MeetsOrNoMemory};
-ghost use Rattle.btf_table.specs.Joined.{Fits, followed, under};
+ghost use Rattle.btf_table.specs.Joined.{Fits, followed, under, CutsTable};
 
 use crate::table::types::{clone_records, types_len};
 use crate::table::{Btf, Changes, SECTION_LIMIT};
@@ -61,11 +61,7 @@ pub fn append_table(table: &mut Btf, own: Btf) -> Result<(), BtfError>
 pub fn cut_table(table: &mut Btf, types: u32, strings: u32)
     requires first { 0 < types }
     requires types { types ≤ length table.old.records }
-    ensures { table.new ≡ record table.old {
-      strings = take strings table.old.strings;
-      records = take types table.old.records;
-      fallbacks = take types table.old.fallbacks;
-    } }
+    ensures { CutsTable table.old table.new types strings }
 {
     let count = types as usize;
     let removed = types_len(&table.types[count..], table.endianness);

@@ -11,7 +11,7 @@ ghost use Rattle.btf_plain.specs.Kind as kinds;
 ghost use Rattle.btf_records.specs.BtfType.{record_of};
 ghost use Rattle.btf_table.specs.Ascii.{BeginsAscii};
 ghost use Rattle.btf_table.specs.BtfStr.{text_bytes, HasName, IsNamed};
-ghost use Rattle.btf_table.specs.Readable.{IsReadableEnd, IsComparable, HasNameAt};
+ghost use Rattle.btf_table.specs.Readable.{IsReadableEnd, IsComparable, HasNameAt, ReadsWithoutMemory};
 
 use crate::table::ascii::ascii_text;
 use bstr::ByteSlice;
@@ -76,8 +76,7 @@ fn utf8_text(bytes: &[u8], ascii: usize) -> Option<&str>
 pub fn text_at(alloc: Global, strings: &[u8], offset: u32) -> Result<BtfStr<'_>, BtfError>
     ensures text { IsOrNoMemory text_bytes result (model.text_at strings.now offset) }
     // Memory is allocated only for bytes that are not UTF-8.
-    ensures no_memory { IfSome (model.bytes_at strings.now offset) IsUtf8
-        → Meets text_bytes result (λ answer. answer ≡ model.text_at strings.now offset) }
+    ensures no_memory { ReadsWithoutMemory strings.now offset result }
 {
     match ascii_text(strings_from(strings, offset)) {
         Ok(text) => Ok(BtfStr::Borrowed(text)),
@@ -95,8 +94,7 @@ fn any_text_at(
 ) -> Result<BtfStr<'_>, BtfError>
     requires { BeginsAscii (drop offset strings.now) ascii }
     ensures text { IsOrNoMemory text_bytes result (model.text_at strings.now offset) }
-    ensures no_memory { IfSome (model.bytes_at strings.now offset) IsUtf8
-        → Meets text_bytes result (λ answer. answer ≡ model.text_at strings.now offset) }
+    ensures no_memory { ReadsWithoutMemory strings.now offset result }
 {
     let Some(bytes) = bytes_at(strings, offset, ascii) else {
         return Err(BtfError::InvalidStringOffset {

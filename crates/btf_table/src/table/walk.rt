@@ -23,7 +23,7 @@ pub fn resolve(types: &[BtfType], type_id: u32) -> Result<u32, BtfError>
     let Some(btf_type) = types.get(type_id as usize) else {
         return Err(BtfError::UnknownBtfType { type_id });
     };
-    match modified(btf_type) {
+    match modified_type(btf_type) {
         Some(_) => resolve_on(types, type_id),
         None => Ok(type_id),
     }
@@ -38,7 +38,7 @@ fn resolve_on(types: &[BtfType], type_id: u32) -> Result<u32, BtfError>
         let Some(btf_type) = types.get(id as usize) else {
             return Err(BtfError::UnknownBtfType { type_id: id });
         };
-        let Some(next) = modified(btf_type) else {
+        let Some(next) = modified_type(btf_type) else {
             return Ok(id);
         };
         id = next;
@@ -47,7 +47,7 @@ fn resolve_on(types: &[BtfType], type_id: u32) -> Result<u32, BtfError>
 }
 
 /// The id of the type that a modifier describes; None for a type of another kind.
-fn modified(btf_type: &BtfType) -> Option<u32>
+fn modified_type(btf_type: &BtfType) -> Option<u32>
     ensures { result ≡ modified_type (record_of btf_type.now) }
 {
     match btf_type.kind() {

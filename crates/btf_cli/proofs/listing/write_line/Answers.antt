@@ -5,7 +5,7 @@ use Rattle.btf_model.specs.Record.{kind_of}
 use Rattle.btf_model.specs.Text.{text_at}
 use Rattle.btf_plain.specs.Kind.{kind, kind_text}
 use Rattle.btf_records.specs.BtfType.{record_of}
-use Rattle.btf_cli.specs.Buffered.{Takes}
+use Rattle.text_buffer.specs.Buffer.{Takes}
 use Rattle.btf_cli.specs.Listing.{kind_part, name_part}
 use Rattle.btf_cli.proofs.Taken.{takes_text, takes_both}
 use Rattle.btf_cli.proofs.listing.write_line.Goals as goal

@@ -1,6 +1,6 @@
 use Rattle.std.proofs.Common.{List, ℕ, ◌+◌, sym, subst, map, take}
 use Rattle.btf_records.specs.BtfType.{record_of}
-use Rattle.btf_cli.specs.Buffered.{Takes}
+use Rattle.text_buffer.specs.Buffer.{Takes}
 use Rattle.btf_cli.specs.Listing.{lines_from, type_line}
 use Rattle.btf_cli.proofs.Listings.{lines_next}
 use Rattle.btf_cli.proofs.Taken.{takes_none, takes_both}

@@ -1,7 +1,7 @@
 use Rattle.std.proofs.Common.{take}
 use Rattle.std.specs.Prelude.{map}
 use Rattle.btf_records.specs.BtfType.{record_of}
-use Rattle.btf_cli.specs.Buffered.{Takes}
+use Rattle.text_buffer.specs.Buffer.{Takes}
 use Rattle.btf_cli.specs.Listing.{lines_from}
 use Rattle.btf_cli.proofs.listing.write_lines.Given as goal
 

@@ -3,7 +3,7 @@ use Rattle.std.specs.Io.KnownBytes.{Appends}
 use Rattle.std.proofs.lemmas.Result.{on_ok_weaker}
 use Rattle.btf_model.specs.Record.{Record}
 use Rattle.btf_records.specs.BtfType.{record_of}
-use Rattle.btf_cli.specs.Buffered.{Takes}
+use Rattle.text_buffer.specs.Buffer.{Takes}
 use Rattle.btf_cli.specs.Listing.{listing, lines_from}
 use Rattle.btf_cli.proofs.Named.{nothing}
 use Rattle.btf_cli.proofs.Taken.{both_ok, flushed, takes_none}

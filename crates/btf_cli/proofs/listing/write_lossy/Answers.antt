@@ -5,7 +5,7 @@ use Rattle.std.proofs.lemmas.Str.{utf8_lossy_chunk, utf8_lossy_last_chunk, utf8_
 use Rattle.std.specs.Str.Chunks.{utf8_chunks_rest}
 use Rattle.std.specs.Str.Lossy.{utf8_lossy, replacement_bytes}
 use Rattle.bstr.proofs.lemmas.LossyLemmas.{lossy_chars-utf8_lossy}
-use Rattle.btf_cli.specs.Buffered.{Takes, HasBufferRoom}
+use Rattle.text_buffer.specs.Buffer.{Takes, HasBufferRoom}
 use Rattle.btf_cli.proofs.Taken.{takes_both, room_next, added, text_begins}
 use Rattle.btf_cli.proofs.listing.write_lossy.Goals as goal
 

@@ -3,7 +3,7 @@
 use Rattle.std.proofs.Common.{◌≡◌, ℕ, List, ◌++◌}
 use Rattle.std.specs.Str.Chunks.{utf8_chunks_rest}
 use Rattle.std.specs.Str.Lossy.{utf8_lossy}
-use Rattle.btf_cli.specs.Buffered.{Takes, HasBufferRoom}
+use Rattle.text_buffer.specs.Buffer.{Takes, HasBufferRoom}
 use Rattle.btf_cli.proofs.listing.write_lossy.Given as goal
 
 abbrev pub invariant-loop-chunk : goal.invariant-loop-chunk

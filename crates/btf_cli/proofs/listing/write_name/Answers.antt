@@ -3,7 +3,7 @@ use Rattle.std.proofs.lemmas.Bool.{false≢true}
 use Rattle.std.proofs.lemmas.List.{length-append}
 use Rattle.btf_model.specs.Text.{lossy}
 use Rattle.btf_records.specs.BtfType.{record_of}
-use Rattle.btf_cli.specs.Buffered.{Takes}
+use Rattle.text_buffer.specs.Buffer.{Takes}
 use Rattle.btf_cli.proofs.Taken.{takes_both, takes_none}
 use Rattle.btf_cli.proofs.Named.{named_part, unnamed_part}
 use Rattle.btf_cli.proofs.listing.write_name.Goals as goal

@@ -9,10 +9,10 @@ use Rattle.btf_cli.proofs.program.answer.Goals as goal
 
 pub returns-in_ok-table-in-Ask-clause-refused : goal.returns-in_ok-table-in-Ask-clause-refused
 returns-in_ok-table-in-Ask-clause-refused c =
-    declined_fails c.args.line c.args.blob.now c.asked.result (query_made c.args.line c.args.blob.now c.in-Ask.query c.in_ok-table-in-Ask.table c.asked.result c.in-Ask.is c.in_ok-table-in-Ask.ensures.parsed c.asked.ensures.made)
+    declined_fails c.args.line c.args.blob.now c.answer_query.result (query_made c.args.line c.args.blob.now c.in-Ask.query c.in_ok-table-in-Ask.table c.answer_query.result c.in-Ask.is c.in_ok-table-in-Ask.ensures.parsed c.answer_query.ensures.made)
 
 pub returns-in_ok-table-in-Ask-clause-reported : goal.returns-in_ok-table-in-Ask-clause-reported
-returns-in_ok-table-in-Ask-clause-reported c = query_of_words c.args.line c.args.blob.now c.in-Ask.query c.in_ok-table-in-Ask.table c.asked.result c.in-Ask.is c.in_ok-table-in-Ask.ensures.parsed c.asked.ensures.reported
+returns-in_ok-table-in-Ask-clause-reported c = query_of_words c.args.line c.args.blob.now c.in-Ask.query c.in_ok-table-in-Ask.table c.answer_query.result c.in-Ask.is c.in_ok-table-in-Ask.ensures.parsed c.answer_query.ensures.reported
 
 pub returns-in_ok-bytes-in-Rewrite-clause-refused : goal.returns-in_ok-bytes-in-Rewrite-clause-refused
 returns-in_ok-bytes-in-Rewrite-clause-refused c = λ f declined.

@@ -4,10 +4,10 @@ use Rattle.btf_model.specs.Run.{new_frame}
 use Rattle.btf_plain.specs.declared.error.BtfError.{BtfError}
 use Rattle.btf_compare.specs.declared.frame.Place.{Place}
 use Rattle.btf_compare.specs.declared.frame.Place.TheVariants.{Ends, Pending}
-use Rattle.btf_compare.specs.Compared.{HasStarted, IsStarted, WalksTo, frame_of, passed_in}
+use Rattle.btf_compare.specs.Compared.{HasStarted, IsStarted, WalksTo, frame_of, passed_in, Compares}
 use Rattle.btf_compare.specs.Pairs.{pair_of}
 use Rattle.btf_compare.proofs.Begun.{Walked, ends_false, walked_unless_false}
-use Rattle.btf_compare.proofs.Comparing.{Compares, propagated, root_refused, root_differs}
+use Rattle.btf_compare.proofs.Comparing.{propagated, root_refused, root_differs}
 use Rattle.btf_compare.proofs.Roots.{root_fails, root_ends, root_goes, root_frame}
 use Rattle.btf_compare.proofs.run.compare.Given.{Over}
 use Rattle.btf_compare.proofs.run.compare.Goals as goal

@@ -8,10 +8,10 @@ use Rattle.btf_compare.specs.declared.frame.Place.{Place}
 use Rattle.btf_compare.specs.declared.frame.Place.TheVariants.{Ends, Pending}
 use Rattle.btf_compare.specs.declared.entries.Progress.{Progress}
 use Rattle.btf_compare.specs.PairMap.{known_progress, count, Learns}
-use Rattle.btf_compare.specs.Compared.{HasStarted, NextParameterIs, frame_of, passed_in, pending_of, is_progress_open, is_progress_compatible, opened_in, compatible_in, progress_of}
+use Rattle.btf_compare.specs.Compared.{HasStarted, NextParameterIs, frame_of, passed_in, pending_of, is_progress_open, is_progress_compatible, opened_in, compatible_in, progress_of, Compares}
 use Rattle.btf_compare.specs.Pairs.{pair_of}
 use Rattle.btf_compare.proofs.Comparing as runs_of
-use Rattle.btf_compare.proofs.Comparing.{Compares, ReportsOneMore, propagated, stack_of, no_memory, ends_refused, ends_true, compares_all, is_open, is_refused, differs, reported_on}
+use Rattle.btf_compare.proofs.Comparing.{ReportsOneMore, propagated, stack_of, no_memory, ends_refused, ends_true, compares_all, is_open, is_refused, differs, reported_on}
 use Rattle.btf_compare.proofs.Progresses.{known_if_open, open_if, compatible_if, unknown_if}
 use Rattle.btf_compare.proofs.Walking.{waits_for, still_pending, Running, PassedIn, shorter, begun, begun_passed, walks, walks_less, walk_fails, ends_by, settled_below, settled_less, settled_passed, returned, returned_less, returned_passed}
 use Rattle.btf_compare.proofs.Inner.{Above, inner_no_memory, inner_fails, inner_false, inner_settled, inner_settled_less, inner_settled_passed, inner_open, inner_open_less, inner_open_passed}

@@ -55,10 +55,10 @@ returns c =
       | then-is_some w ↦ remain_some found.0 c.is_some.result c.args.candidates.now.items found.1 c.if-is_some.candidates.items c.is_some.ensures w.if-is_some.true (ap (λ (v : Vec ℕ). v.items) w.candidates-is)
       | else-is_some w ↦ remain_none found.0 c.is_some.result c.args.candidates.now.items found.1 c.if-is_some.candidates.items c.is_some.ensures w.if-is_some.false (ap (λ (v : Vec ℕ). v.items) w.candidates-is)
     ] in
-    let result : resolved_by g.local g.target q.kind (model.validates q.kind q.subject) c.in_ok-expected.expected found.0 ≡ c.resolved_by.result = sym (c.resolved_by.ensures
+    let result : resolved_by g.local g.target q.kind (model.validates q.kind q.subject) c.in_ok-expected.expected found.0 ≡ c.resolve_by.result = sym (c.resolve_by.ensures
     ∙ ap (λ (t : Table). resolved_by g.local t q.kind c.validates-validates.result c.in_ok-expected.expected found.0) c.table-2.ensures
     ∙ ap (λ (b : Bool). resolved_by g.local g.target q.kind b c.in_ok-expected.expected found.0) c.validates-validates.ensures) in
     answered_by g c.args.candidates.now.items words q c.in_ok-expected.expected asked found
     (ap (λ (cs : List ℕ). answers (candidate_answer g q.kind q.subject) None cs) (sym c.as_slice.ensures.value) ∙ known)
     ∙ ap (λ (r : Resolved). let p : Resolved × List ℕ = (r, remaining c.args.candidates.now.items found.0 found.1) in Ok p) result
-    ∙ ap (λ (cs : List ℕ). let p : Resolved × List ℕ = (c.resolved_by.result, cs) in Ok p) left
+    ∙ ap (λ (cs : List ℕ). let p : Resolved × List ℕ = (c.resolve_by.result, cs) in Ok p) left

@@ -1,22 +1,18 @@
 //! What becomes of a DATASEC's entries.
 
-ghost use Rattle.std.specs.Prelude.{◌≡◌, List, [], ◌∷◌, length, map, IfOk, OnOk};
+ghost use Rattle.std.specs.Prelude.{◌≡◌, length, map, IfOk, OnOk};
 ghost use Rattle.std.specs.List.{flat_map};
-ghost use Rattle.std.specs.Option.{unwrap_or};
-ghost use Rattle.btf_model.specs.Record.{Record, vlen};
+ghost use Rattle.btf_model.specs.Record.{vlen};
 ghost use Rattle.btf_rewrite_model.specs.Made.{entries};
-ghost use Rattle.btf_model.specs.Text.{text_at};
-ghost use Rattle.btf_rewrite_model.specs.Checks.{first_fault, name_is_read};
-ghost use Rattle.btf_rewrite_model.specs.Pass.{Pass, symbol_by_name};
-ghost use Rattle.btf_rewrite_model.specs.Rule.{entry_members, placed};
-ghost use Rattle.btf_rewrite_model.specs.Fault.{member_checks, entry_checks, is_placed};
+ghost use Rattle.btf_rewrite_model.specs.Pass.{Pass};
+ghost use Rattle.btf_rewrite_model.specs.Rule.{placed};
 ghost use Rattle.btf_plain.specs.Error.{IsOrNoMemory};
 ghost use Rattle.btf_plain.specs.Items.{member_words};
-ghost use Rattle.btf_table.specs.Checked.{checked};
 ghost use Rattle.btf_table.specs.KsymsStep.{model_entry as entry_of};
 ghost use Rattle.btf_table.specs.Layout.{offsets_of};
 ghost use Rattle.btf_table.specs.ReadNames.{AreFound};
 ghost use Rattle.btf_table.specs.Readable.{IsReadableEnd};
+ghost use Rattle.btf_table.specs.SectionAnswers.{symbol_offset_at, entry_placed, IsMember, AreMembers, AreEntriesPlaced};
 
 use crate::sanitize::data_sec::layout::known_offset;
 use crate::sanitize::read_names::LONG_NAME;
@@ -32,11 +28,7 @@ use std::hash::BuildHasher;
 /// Fails with `UnknownBtfType` of an id that has no type, and with `InvalidTypeInfo` if the offset in bits has more
 /// than 32 bits.
 fn member(btf: &Btf, names: &[u32], entry: &DataSecEntry) -> Result<BtfMember, BtfError>
-    ensures { (p : Pass) (lower : List Record) → p.table ≡ btf.now
-        → names.now ≡ map (λ (r : Record). r.name) lower
-        → IsOrNoMemory member_words result
-        (checked (first_fault (member_checks p (entry_of entry.now)))
-        (entry_members p lower (length lower) (entry_of entry.now ∷ []))) }
+    ensures { IsMember btf.now names.now entry.now result }
 {
     let btf_type = btf.type_by_id(entry.btf_type)?;
     let Some(offset) = entry.offset.checked_mul(8) else {
@@ -59,11 +51,8 @@ fn member(btf: &Btf, names: &[u32], entry: &DataSecEntry) -> Result<BtfMember, B
 /// Fails with `UnknownBtfType` of an entry's id that has no type, and with `InvalidTypeInfo` if an offset in bits has
 /// more than 32 bits.
 pub fn members(btf: &Btf, names: &[u32], data_sec: &DataSec) -> Result<Vec<BtfMember>, BtfError>
-    ensures answer { (p : Pass) (lower : List Record) → p.table ≡ btf.now
-        → names.now ≡ map (λ (r : Record). r.name) lower
-        → IsOrNoMemory (λ v. flat_map member_words v.items) result
-        (checked (first_fault (flat_map (member_checks p) (entries data_sec.now.tail)))
-        (entry_members p lower (length lower) (entries data_sec.now.tail))) }
+    ensures answer { AreMembers btf.now names.now data_sec.now
+        (λ v. flat_map member_words v.items) result }
     ensures count { IfOk result (λ v. length v.items ≡ vlen data_sec.now.info) }
 {
     let mut members = Vec::new(btf.allocator());
@@ -86,11 +75,7 @@ fn symbol_offset<H: BuildHasher>(
 ) -> Result<u32, BtfError>
     requires { AreFound btf.now.strings (offsets_of symbols.now) offsets.old }
     ensures answer { (p : Pass) → p.layout.symbols ≡ offsets_of symbols.now
-        → IsOrNoMemory (λ n. n) result
-        (checked (first_fault (name_is_read (text_at btf.now.strings name_offset)
-        ∷ is_placed (symbol_by_name p (text_at btf.now.strings name_offset))
-        (text_at btf.now.strings name_offset) ∷ []))
-        (unwrap_or (symbol_by_name p (text_at btf.now.strings name_offset)) 0)) }
+        → IsOrNoMemory (λ n. n) result (symbol_offset_at p btf.now name_offset) }
     ensures found { OnOk result (AreFound btf.now.strings (offsets_of symbols.now) offsets.new) }
 {
     if let Some(offset) = offsets.get(&name_offset) {
@@ -114,7 +99,7 @@ fn symbol_offset<H: BuildHasher>(
 /// Fails with `UnknownBtfType` of an id that has no type, with `InvalidDatasec` if the type is no VAR, with
 /// `InvalidStringOffset` if its name can't be read, and with `SymbolOffsetNotFound` if no symbol has the name, or if
 /// the symbol's offset has more than 32 bits.
-fn placed_entry<H: BuildHasher>(
+fn place_entry<H: BuildHasher>(
     btf: &Btf,
     symbols: &HashMap<String, u64, H>,
     readable_end: usize,
@@ -123,10 +108,9 @@ fn placed_entry<H: BuildHasher>(
 ) -> Result<DataSecEntry, BtfError>
     requires readable { IsReadableEnd btf.now.strings readable_end }
     requires found { AreFound btf.now.strings (offsets_of symbols.now) offsets.old }
-    ensures answer { (p : Pass) → p.table ≡ btf.now → p.layout.symbols ≡ offsets_of symbols.now
-        → IsOrNoMemory entry_of result
-        (checked (first_fault (entry_checks p (entry_of entry.now)))
-        (placed p (entry_of entry.now))) }
+    ensures answer { (p : Pass) → p.table ≡ btf.now
+        → p.layout.symbols ≡ offsets_of symbols.now
+        → IsOrNoMemory entry_of result (entry_placed p entry.now) }
     ensures found { OnOk result (AreFound btf.now.strings (offsets_of symbols.now) offsets.new) }
 {
     let btf_type = btf.type_by_id(entry.btf_type)?;
@@ -151,7 +135,7 @@ fn placed_entry<H: BuildHasher>(
 /// Reports the first error of the entries in order: `UnknownBtfType` of an id that has no type, `InvalidDatasec` if the
 /// type is no VAR, `InvalidStringOffset` if its name can't be read, and `SymbolOffsetNotFound` if no symbol has the
 /// name, or if the symbol's offset has more than 32 bits.
-pub fn placed_entries<H: BuildHasher>(
+pub fn place_entries<H: BuildHasher>(
     btf: &Btf,
     symbols: &HashMap<String, u64, H>,
     readable_end: usize,
@@ -160,16 +144,14 @@ pub fn placed_entries<H: BuildHasher>(
 ) -> Result<Vec<DataSecEntry>, BtfError>
     requires readable { IsReadableEnd btf.now.strings readable_end }
     requires found { AreFound btf.now.strings (offsets_of symbols.now) offsets.old }
-    ensures answer { (p : Pass) → p.table ≡ btf.now → p.layout.symbols ≡ offsets_of symbols.now
-        → IsOrNoMemory (λ v. map entry_of v.items) result
-        (checked (first_fault (flat_map (entry_checks p) (entries data_sec.now.tail)))
-        (map (placed p) (entries data_sec.now.tail))) }
+    ensures answer { AreEntriesPlaced btf.now data_sec.now (offsets_of symbols.now)
+        (λ v. map entry_of v.items) result }
     ensures count { IfOk result (λ v. length v.items ≡ vlen data_sec.now.info) }
     ensures found { OnOk result (AreFound btf.now.strings (offsets_of symbols.now) offsets.new) }
 {
     let mut placed_entries = Vec::new(btf.allocator());
     for entry in data_sec.entries() {
-        let placed = placed_entry(btf, symbols, readable_end, offsets, entry)?;
+        let placed = place_entry(btf, symbols, readable_end, offsets, entry)?;
         placed_entries.push(placed)?;
     }
     Ok(placed_entries)

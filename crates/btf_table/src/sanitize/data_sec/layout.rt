@@ -1,12 +1,10 @@
 //! What the caller's maps have for the section and the symbols of a DATASEC.
 
 ghost use Rattle.std.specs.Prelude.{◌≡◌, Some, Ok};
-ghost use Rattle.std.specs.Option.{unwrap_or};
 ghost use Rattle.btf_rewrite_model.specs.Checks.{in_a_word};
-ghost use Rattle.btf_rewrite_model.specs.Fault.{is_sized};
 ghost use Rattle.btf_plain.specs.Error.{IsOrNoMemory};
-ghost use Rattle.btf_table.specs.Checked.{checked};
 ghost use Rattle.btf_table.specs.Layout.{sizes_of, offsets_of};
+ghost use Rattle.btf_table.specs.SectionAnswers.{section_size_of};
 
 use btf_plain::{BtfError, SectionIndex};
 use std::alloc::Global;
@@ -20,9 +18,7 @@ pub fn section_size<G: BuildHasher>(
     sections: &HashMap<String, (SectionIndex, u64), G>,
     name: &str,
 ) -> Result<u32, BtfError>
-    ensures { IsOrNoMemory (λ n. n) result
-        (checked (is_sized (in_a_word (sizes_of sections.now name.now)) (Ok name.now))
-        (unwrap_or (in_a_word (sizes_of sections.now name.now)) 0)) }
+    ensures { IsOrNoMemory (λ n. n) result (section_size_of name.now (sizes_of sections.now)) }
 {
     let Some(size) = known_size(sections, name) else {
         return Err(BtfError::UnknownSectionSize {

@@ -1,17 +1,12 @@
 //! The names that DATASECs get in a rewrite.
 
-ghost use Rattle.std.specs.Prelude.{◌≡◌, ◌↔◌, if◌then◌else◌, [], ◌∷◌, Some, IfOk, OnOk, IsTrue, string_bytes};
+ghost use Rattle.std.specs.Prelude.{◌≡◌, ◌↔◌, if◌then◌else◌, Some, IfOk, OnOk, IsTrue, string_bytes};
 ghost use Rattle.std.specs.BTreeMap.{get};
 ghost use Rattle.std.specs.Ordering.{nat_cmp};
-ghost use Rattle.btf_rewrite_model.specs.declared.feature.BtfFeature.TheVariants as features;
-ghost use Rattle.btf_model.specs.Text.{text_at};
-ghost use Rattle.btf_rewrite_model.specs.Checks.{first_fault, name_is_read, have_room};
-ghost use Rattle.btf_rewrite_model.specs.Pass.{Pass, has, renaming, replaced, slash, dot, underscore_byte};
-ghost use Rattle.btf_rewrite_model.specs.Rule.{name_or};
-ghost use Rattle.btf_plain.specs.Error.{IsOrNoMemory};
-ghost use Rattle.btf_table.specs.Adding.{next_string_offset, HasRoom, Adds};
-ghost use Rattle.btf_table.specs.Checked.{checked};
+ghost use Rattle.btf_rewrite_model.specs.Pass.{has, replaced, slash, dot, underscore_byte};
+ghost use Rattle.btf_table.specs.Adding.{HasRoom};
 ghost use Rattle.btf_table.specs.ReadNames.{AreUnchanged};
+ghost use Rattle.btf_table.specs.SectionAnswers.{AddsName, IsNewName};
 
 use crate::sanitize::read_names::LONG_NAME;
 use crate::table::{Btf, Changes};
@@ -34,16 +29,8 @@ pub fn new_name(
 ) -> Result<u32, BtfError>
     requires room { HasRoom btf.now changes.old }
     requires kept { AreUnchanged btf.now.strings kept.old }
-    ensures answer { (p : Pass) → p.table ≡ btf.now → has p features.DataSec ≡ granted
-        → IsOrNoMemory (λ o. o) result (checked
-        (first_fault (name_is_read (text_at btf.now.strings data_sec.now.name)
-        ∷ have_room (next_string_offset btf.now changes.old)
-        (renaming p (text_at btf.now.strings data_sec.now.name))))
-        (name_or data_sec.now.name (next_string_offset btf.now changes.old)
-        (renaming p (text_at btf.now.strings data_sec.now.name)))) }
-    ensures adds { (p : Pass) → p.table ≡ btf.now → has p features.DataSec ≡ granted
-        → OnOk result (Adds btf.now changes.old changes.new
-        (renaming p (text_at btf.now.strings data_sec.now.name)) []) }
+    ensures answer { IsNewName btf.now changes.old data_sec.now granted result }
+    ensures adds { AddsName btf.now data_sec.now granted changes.old changes.new result }
     ensures kept { OnOk result (AreUnchanged btf.now.strings kept.new) }
 {
     let offset = data_sec.name_offset();

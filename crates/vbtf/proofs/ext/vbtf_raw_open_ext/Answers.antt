@@ -9,7 +9,7 @@ use Rattle.vbtf.proofs.ext.vbtf_raw_open_ext.Goals.{After-owner}
 
 -- the opened .BTF.ext is the handle's
 same_old : (c : After-owner) → c.deref_mut.result.now ≡ c.args.table.now.opened
-same_old c = c.deref_mut.ensures.value ∙ c.in-Some-taken.ensures.2
+same_old c = c.deref_mut.ensures.value ∙ c.in-Some-take_table.ensures.2
 
 pub returns-in-Ok-true-clause-opened : goal.returns-in-Ok-true-clause-opened
 returns-in-Ok-true-clause-opened c owned known =

@@ -9,7 +9,7 @@ use Rattle.vbtf.proofs.name.vbtf_lent_name.Goals as goal
 
 pub returns-clause-named : goal.returns-clause-named
 returns-clause-named c two =
-    let now : c.seen.new.self ≡ c.args.table.now = c.seen.ensures.1 in
+    let now : c.read_state.new.self ≡ c.args.table.now = c.read_state.ensures.1 in
     let kept = c.name_len.ensures.kept in
     let opened : c.name_len.new.table.opened ≡ c.args.table.now.opened = kept.opened ∙ ap (λ (h : Handle). h.opened) now in
     let found = subst (λ (h : Handle). Some c.in-Some.found ≡ option_map length (bytes_at h.opened.btf.strings c.args.offset)) now c.in-Some.ensures.found in

@@ -11,7 +11,7 @@ returns-in-Err-clause-opened c = λ closed low.
     let order = order_chosen c.args.order c.args.data.now in
     let parsed = subst (λ (o : Endianness). MeetsOrNoMemory (λ b. b) c.parse.result (Parses o c.args.data.now)) c.in-Some.ensures.1 c.parse.ensures.parsed in
     inr (
-      c.seen.ensures.1,
+      c.read_state.ensures.1,
       refused c.report.result c.report.new.fault (refusal_of c.in-Err.error) (Parses order c.args.data.now)
           (boxed_error c.parse.result c.in-Err.error (Parses order c.args.data.now) parsed c.in-Err.ensures) c.report.ensures,
     )

@@ -17,15 +17,15 @@ use Rattle.vbtf.proofs.rewrite.vbtf_raw_rewrite.Goals.{After-owner}
 
 -- the table that is rewritten is the handle's
 same_old : (c : After-owner) → c.deref_mut.result.now.btf ≡ c.args.table.now.opened.btf
-same_old c = ap (λ o. o.btf) c.deref_mut.ensures.value ∙ c.in-Some.ensures.2.btf ∙ ap (λ h. h.opened.btf) c.seen.ensures.1
+same_old c = ap (λ o. o.btf) c.deref_mut.ensures.value ∙ c.in-Some.ensures.2.btf ∙ ap (λ h. h.opened.btf) c.read_state.ensures.1
 
 -- the rewritten table is the handle's
-same_new : (c : After-owner) → c.owner.result.opened.btf ≡ c.rewritten-answer.new.btf
+same_new : (c : After-owner) → c.owner.result.opened.btf ≡ c.rewrite-answer.new.btf
 same_new c = ap (λ o. o.btf) c.owner.ensures.1
 
 -- the .BTF.ext is the one that was open
 same_ext : (c : After-owner) → c.owner.result.opened.ext ≡ c.args.table.now.opened.ext
-same_ext c = ap (λ o. o.ext) c.owner.ensures.1 ∙ ap (λ o. o.ext) c.deref_mut.ensures.value ∙ c.in-Some.ensures.2.ext ∙ ap (λ h. h.opened.ext) c.seen.ensures.1
+same_ext c = ap (λ o. o.ext) c.owner.ensures.1 ∙ ap (λ o. o.ext) c.deref_mut.ensures.value ∙ c.in-Some.ensures.2.ext ∙ ap (λ h. h.opened.ext) c.read_state.ensures.1
 
 -- no index is open
 no_index : (c : After-owner) → c.owner.result.opened.index ≡ None
@@ -54,11 +54,11 @@ returns-in-Ok-clause-granted c = λ zero.
     )
 
 -- the answers that were reported are to the first features that the rewrite of the handle's table asks for
-reported : (c : After-owner) → (listed : List FeatureAnswer) × ListsAnswers c.rewritten-answer.new.asked listed × AreAnswersOf c.args.kernel.now.features listed
+reported : (c : After-owner) → (listed : List FeatureAnswer) × ListsAnswers c.rewrite-answer.new.asked listed × AreAnswersOf c.args.kernel.now.features listed
     × BeginsAsked (pass_of (policy_chosen c.args.kernel.now) c.args.table.now.opened.btf (ids_chosen c.args.kernel.now) (layout_named c.args.section_names.now c.args.sections.now c.args.symbol_names.now c.args.symbols.now) listed)
 reported c =
     let kernel = c.args.kernel.now in
-    let asked = c.rewritten-answer.ensures.asked in (
+    let asked = c.rewrite-answer.ensures.asked in (
       asked.0,
       asked.1,
       asked.2,
@@ -84,7 +84,7 @@ returns-in-Ok-clause-rewritten c = λ owned sections symbols.
         no_index w,
         listed,
         c.in-Ok.ensures.listed,
-        for_handle kernel.features (policy_chosen kernel) (ids_chosen kernel) c.deref_mut.result.now.btf c.args.table.now.opened.btf _ (layout_named c.args.section_names.now c.args.sections.now c.args.symbol_names.now c.args.symbols.now) c.rewritten-answer.new.btf c.owner.result.opened.btf (Ok listed) (same_old w) (same_layout w) (same_new w) c.in-Ok.ensures.rewrites,
+        for_handle kernel.features (policy_chosen kernel) (ids_chosen kernel) c.deref_mut.result.now.btf c.args.table.now.opened.btf _ (layout_named c.args.section_names.now c.args.sections.now c.args.symbol_names.now c.args.symbols.now) c.rewrite-answer.new.btf c.owner.result.opened.btf (Ok listed) (same_old w) (same_layout w) (same_new w) c.in-Ok.ensures.rewrites,
       ),
     )
 
@@ -93,7 +93,7 @@ returns-clause-rewritten c = λ owned sections symbols.
     let w = (goal.at.returns-clause-rewritten c).After-owner in
     let kernel = c.args.kernel.now in
     let ended = refused c.report-in-Err-answer.result c.report-in-Err-answer.new.fault (refusal_of c.in-Err-answer.error)
-    (RewritesForKernel kernel.features (rewrite_chosen kernel (layout_of c.in-Ok-Some.program.sections c.in-Ok-Some.program.symbols)) c.deref_mut.result.now.btf c.rewritten-answer.new.btf)
+    (RewritesForKernel kernel.features (rewrite_chosen kernel (layout_of c.in-Ok-Some.program.sections c.in-Ok-Some.program.symbols)) c.deref_mut.result.now.btf c.rewrite-answer.new.btf)
     c.in-Err-answer.ensures.rewrites c.report-in-Err-answer.ensures in (
       c.owner.ensures.0,
       same_ext w,
@@ -105,7 +105,7 @@ returns-clause-rewritten c = λ owned sections symbols.
           | inr (refusal, reported, found) ↦ inr (
             refusal,
             reported,
-            for_handle kernel.features (policy_chosen kernel) (ids_chosen kernel) c.deref_mut.result.now.btf c.args.table.now.opened.btf _ (layout_named c.args.section_names.now c.args.sections.now c.args.symbol_names.now c.args.symbols.now) c.rewritten-answer.new.btf c.owner.result.opened.btf (Err refusal) (same_old w) (same_layout w) (same_new w) found,
+            for_handle kernel.features (policy_chosen kernel) (ids_chosen kernel) c.deref_mut.result.now.btf c.args.table.now.opened.btf _ (layout_named c.args.section_names.now c.args.sections.now c.args.symbol_names.now c.args.symbols.now) c.rewrite-answer.new.btf c.owner.result.opened.btf (Err refusal) (same_old w) (same_layout w) (same_new w) found,
           )
         ],
       ),

@@ -12,7 +12,7 @@ returns-in-Err-clause-opened c = λ closed low.
     let order = order_chosen c.args.order c.args.data.now in
     let parsed = subst (λ (o : Endianness). MeetsOrNoMemory (λ b. b) c.parse_split.result (Joins o c.args.base.now c.args.data.now)) c.in-Some.ensures.1 c.parse_split.ensures.parsed in
     inr (
-      c.seen.ensures.1,
+      c.read_state.ensures.1,
       refused c.report.result c.report.new.fault (refusal_of c.in-Err.error) (Joins order c.args.base.now c.args.data.now)
           (boxed_error c.parse_split.result c.in-Err.error (Joins order c.args.base.now c.args.data.now) parsed c.in-Err.ensures) c.report.ensures,
     )
@@ -33,7 +33,7 @@ pub returns-in-Err-clause-only_table : goal.returns-in-Err-clause-only_table
 returns-in-Err-clause-only_table c = λ closed low t joined.
     let only = c.parse_split.ensures.only_table t (subst (λ (o : Endianness). IsJoined o c.args.base.now c.args.data.now t) (sym c.in-Some.ensures.1) joined) in
     inr (
-      c.seen.ensures.1,
+      c.read_state.ensures.1,
       refused c.report.result c.report.new.fault (refusal_of c.in-Err.error) (λ answer. answer ≡ Ok t)
           (boxed_error c.parse_split.result c.in-Err.error (λ answer. answer ≡ Ok t) only c.in-Err.ensures) c.report.ensures,
     )

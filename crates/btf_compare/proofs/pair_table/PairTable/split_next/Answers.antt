@@ -79,13 +79,13 @@ module _ (c : After-push_reserved) (long : c.len-many.result ≡ length c.self.i
         (split_table t.buckets.items t.mask t.further.entries c.self.invariant.0 (c.len-many.result - (t.mask / 2 + 1)) from c.index.result.now is c.split-stay.result.0 c.split-stay.result.1 shared c.split-stay.ensures.counts c.split-stay.ensures.stay c.split-stay.ensures.go next masks)
 
     -- the buckets were full, and take some pairs more
-    takes : TakesMore (layout c.push_reserved.new.self.items next c.self.inside.further.entries) c.gained-more.result
+    takes : TakesMore (layout c.push_reserved.new.self.items next c.self.inside.further.entries) c.room_gained-more.result
     takes =
         let rows : c.len-many.result ≡ length c.args.self.now.rows = omega (arith, long, length-map c.self.inside.buckets.items entries_of, ap (λ t. length t.rows) c.self.view_is) in
         omega (
           arith,
           c.requires,
-          c.gained-more.ensures.gains,
+          c.room_gained-more.ensures.gains,
           ap capacity rows,
           ap capacity (longer ∙ ap (λ (n : ℕ). n + 1) (sym rows)),
           same_counts,
@@ -134,7 +134,7 @@ pub returns-else-many-self-clause-grows : goal.returns-else-many-self-clause-gro
 returns-else-many-self-clause-grows c = longer (goal.at.returns-else-many-self-clause-grows c).After-push_reserved (fewer c).0 _ (fewer c).1
 
 pub returns-then-many-self-clause-room : goal.returns-then-many-self-clause-room
-returns-then-many-self-clause-room c = omega (arith, c.gained-more.ensures.some, takes (goal.at.returns-then-many-self-clause-room c).After-push_reserved (full c).0 _ (full c).1)
+returns-then-many-self-clause-room c = omega (arith, c.room_gained-more.ensures.some, takes (goal.at.returns-then-many-self-clause-room c).After-push_reserved (full c).0 _ (full c).1)
 
 pub returns-else-many-self-clause-room : goal.returns-else-many-self-clause-room
-returns-else-many-self-clause-room c = omega (arith, c.gained-more.ensures.some, takes (goal.at.returns-else-many-self-clause-room c).After-push_reserved (fewer c).0 _ (fewer c).1)
+returns-else-many-self-clause-room c = omega (arith, c.room_gained-more.ensures.some, takes (goal.at.returns-else-many-self-clause-room c).After-push_reserved (fewer c).0 _ (fewer c).1)

@@ -7,8 +7,8 @@ use Rattle.btf_elf.proofs.Options.{some_since_test}
 use Rattle.btf_elf.proofs.Replacing.{IsRewrite, has_replaced, header_within}
 use Rattle.btf_elf.proofs.object.Object.with_section.Goals as goal
 
-pub rewritten-requires-clause-header : goal.rewritten-requires-clause-header
-rewritten-requires-clause-header c =
+pub write_replaced-requires-clause-header : goal.write_replaced-requires-clause-header
+write_replaced-requires-clause-header c =
     let o = c.args.self.now in
     let valid : model.IsObject o.bytes o = subst (λ (x : model.Object). model.IsObject x.bytes x) c.self.view_is c.self.invariant.object in
     subst (λ (x : model.Object). x.header.section_headers + file_header_len * c.args.index + 40 ≤ length x.bytes) (sym c.self.view_is)

@@ -13,5 +13,5 @@ loop-at-init c =
     let first : is ≡ get_or is 0 0 ∷ drop 1 is = by_first is (some_of (length is) c.is_empty.result c.is_empty.ensures c.if-is_empty.false) in
     let steps : c.push.new.self.items ≡ Element (get_or is 0 0) ∷ [] = c.in_ok-push.ensures.items ∙ ap (λ (xs : List Accessor). xs ++ Element (get_or is 0 0) ∷ []) c.in_ok-accessors.ensures.items in
     ap (λ (xs : List Accessor). finish t (map step_of xs) true c.in_ok-field.field (drop 1 is)) steps
-    ∙ first_step t c.args.type_id (get_or is 0 0) (drop 1 is) c.in_ok-field.field (sym c.placed.ensures ∙ c.in_ok-field.was)
+    ∙ first_step t c.args.type_id (get_or is 0 0) (drop 1 is) c.in_ok-field.field (sym c.place.ensures ∙ c.in_ok-field.was)
     ∙ ap (path_of t c.args.type_id) (sym first)

@@ -224,7 +224,7 @@ returns-then-wants_filler-clause-steps g c = λ given id is comes. let policy = 
     let before : Made = c.args.made.now in
     let q : Pass = pass_on c.args.btf.now given c.wants_filler.new.resolver.answers in
     let known = answered g (goal.at.returns-then-wants_filler-clause-steps g c).After-final_size c.in_ok-size.size c.in_ok-size.was c.wants_filler.new.resolver c.wants_filler.result c.wants_filler.ensures.quiet c.wants_filler.ensures.asks given id policy sections there below here in
-    with_fact (λ new. unwrap_or new (DataSec r)) c.filled.result _ (Rules q id (DataSec r) before c.filled.new.made) known.all_asked (c.filled.ensures given q.answers id r before known.named (known.filled ∙ c.if-wants_filler.true) known.sized)
+    with_fact (λ new. unwrap_or new (DataSec r)) c.fill.result _ (Rules q id (DataSec r) before c.fill.new.made) known.all_asked (c.fill.ensures given q.answers id r before known.named (known.filled ∙ c.if-wants_filler.true) known.sized)
 
 pub returns-then-size-ne0-clause-called : goal.returns-then-size-ne0-clause-called
 returns-then-size-ne0-clause-called g c = called_two g (goal.at.returns-then-size-ne0-clause-called g c).After-final_size c.in_ok-size.size c.in_ok-size.was c.wants_filler.new.resolver c.wants_filler.result c.wants_filler.ensures.quiet c.wants_filler.ensures.asks
@@ -243,8 +243,8 @@ returns-then-size-ne0-clause-steps g c = λ given id is comes. let policy = ap (
     let q : Pass = pass_on c.args.btf.now given c.wants_filler.new.resolver.answers in
     let known = answered g (goal.at.returns-then-size-ne0-clause-steps g c).After-final_size c.in_ok-size.size c.in_ok-size.was c.wants_filler.new.resolver c.wants_filler.result c.wants_filler.ensures.quiet c.wants_filler.ensures.asks given id policy sections there below here in
     let sized : (r.third == 0) ≡ false = ne_eqb r.third 0 (λ is. c.if-size-ne0.true (c.size.ensures ∙ is)) in
-    with_fact (λ new. unwrap_or new (DataSec r)) c.renamed.result _ (Rules q id (DataSec r) before now) known.all_asked
-    (renamed_answer q id r c.in_ok-name_offset.name_offset before now known.named c.renamed.result known.granted sized (known.filled ∙ c.if-wants_filler.false) c.renamed.ensures.answer c.renamed.ensures.fallback)
+    with_fact (λ new. unwrap_or new (DataSec r)) c.rename.result _ (Rules q id (DataSec r) before now) known.all_asked
+    (renamed_answer q id r c.in_ok-name_offset.name_offset before now known.named c.rename.result known.granted sized (known.filled ∙ c.if-wants_filler.false) c.rename.ensures.answer c.rename.ensures.fallback)
 
 pub returns-clause-called : goal.returns-clause-called
 returns-clause-called g c = called_two g (goal.at.returns-clause-called g c).After-final_size c.in_ok-size.size c.in_ok-size.was c.wants_filler.new.resolver c.wants_filler.result c.wants_filler.ensures.quiet c.wants_filler.ensures.asks
@@ -266,6 +266,6 @@ returns-clause-steps g c = λ given id is comes. let policy = ap (λ (x : Given)
     with_fact (λ new. unwrap_or new (DataSec r)) c.with_symbol_offsets.result _ (Rules q id (DataSec r) before now) known.all_asked
     (laid_answer q id r c.in_ok-name_offset.name_offset before now known.named c.in_ok-size.size c.with_symbol_offsets.result known.granted unsized (known.filled ∙ c.if-wants_filler.false) (ap (λ (z : Bool). if z then section_size q id else Some r.third) (sym unsized) ∙ known.sized) (c.with_symbol_offsets.ensures.answer q refl symbols) c.with_symbol_offsets.ensures.fallback)
 
-pub filled-requires : goal.filled-requires
-filled-requires g c =
+pub fill-requires : goal.fill-requires
+fill-requires g c =
     (c.in_ok-name_offset.ensures.adds (pass_on c.args.btf.now (record { layout = record { sections = λ _. None; symbols = λ _. None }; policy = c.args.request.now.policy }) (record { feature = features.DataSec; granted = c.is_supported-granted.result } ∷ [])) refl refl).room

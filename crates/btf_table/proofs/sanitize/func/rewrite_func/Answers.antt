@@ -26,8 +26,8 @@ pub returns-in_default-clause-called : goal.returns-in_default-clause-called
 returns-in_default-clause-called g c = λ first called.
     asks_called _ first features.Func c.args.resolver.now c.is_supported.new.self c.is_supported.result c.is_supported.ensures.asks called
 
-pub returns-in_err-made_static-clause-called : goal.returns-in_err-made_static-clause-called
-returns-in_err-made_static-clause-called g c = λ first called.
+pub returns-in_err-make_static-clause-called : goal.returns-in_err-make_static-clause-called
+returns-in_err-make_static-clause-called g c = λ first called.
     asks_called _ first features.Func c.args.resolver.now c.is_supported.new.self c.is_supported.result c.is_supported.ensures.asks called
 
 pub returns-then-is_builtin-clause-called : goal.returns-then-is_builtin-clause-called
@@ -39,8 +39,8 @@ returns-then-is_supported-clause-called g c = λ first called.
     asks_called _ first features.FuncGlobal c.is_supported.new.self c.is_supported-2.new.self c.is_supported-2.result c.is_supported-2.ensures.asks
     (asks_called _ first features.Func c.args.resolver.now c.is_supported.new.self c.is_supported.result c.is_supported.ensures.asks called)
 
-pub returns-in_err-made_static-2-clause-called : goal.returns-in_err-made_static-2-clause-called
-returns-in_err-made_static-2-clause-called g c = λ first called.
+pub returns-in_err-make_static-2-clause-called : goal.returns-in_err-make_static-2-clause-called
+returns-in_err-make_static-2-clause-called g c = λ first called.
     asks_called _ first features.FuncGlobal c.is_supported.new.self c.is_supported-2.new.self c.is_supported-2.result c.is_supported-2.ensures.asks
     (asks_called _ first features.Func c.args.resolver.now c.is_supported.new.self c.is_supported.result c.is_supported.ensures.asks called)
 
@@ -65,8 +65,8 @@ returns-in_default-clause-asks g c = λ given id there below.
           (and_second c.is_supported.result (is_global c.args.func.now) (not (is_builtin n.0)) (linkage_other (vlen c.args.func.now.info) (λ is. c.in_default.not-Global (c.linkage.ensures ∙ is)))),
     )
 
-pub returns-in_err-made_static-clause-asks : goal.returns-in_err-made_static-clause-asks
-returns-in_err-made_static-clause-asks g c = λ given id there below.
+pub returns-in_err-make_static-clause-asks : goal.returns-in_err-make_static-clause-asks
+returns-in_err-make_static-clause-asks g c = λ given id there below.
     let n = read_name c.args.btf.now.strings c.name_offset-name_offset.result c.args.func.now.name c.in_ok-check_name.ensures c.name_offset-name_offset.ensures.value in (
       [],
       one_asked c.args.btf.now given id (Func c.args.func.now) there there.kind_is n.0 n.1 c.args.resolver.now.answers below c.is_supported.new.self.answers c.is_supported.result (asks_next (words g.row.F g.F.FnMut).step features.Func c.args.resolver.now c.is_supported.new.self c.is_supported.result c.is_supported.ensures.asks)
@@ -89,8 +89,8 @@ returns-then-is_supported-clause-asks g c = λ given id there below.
           (linkage_global (vlen c.args.func.now.info) (sym c.linkage.ensures ∙ c.in-Global.is)) (is_known c.args.btf.now.strings c.strings_from.result.now n.0 c.name_offset-name_offset.result c.args.func.now.name c.is_builtin.result c.strings_from.ensures c.name_offset-name_offset.ensures.value n.1 c.is_builtin.ensures ∙ c.if-is_builtin.false)).0,
     )
 
-pub returns-in_err-made_static-2-clause-asks : goal.returns-in_err-made_static-2-clause-asks
-returns-in_err-made_static-2-clause-asks g c = λ given id there below.
+pub returns-in_err-make_static-2-clause-asks : goal.returns-in_err-make_static-2-clause-asks
+returns-in_err-make_static-2-clause-asks g c = λ given id there below.
     let n = read_name c.args.btf.now.strings c.name_offset-name_offset.result c.args.func.now.name c.in_ok-check_name.ensures c.name_offset-name_offset.ensures.value in (
       [],
       (both_asked c.args.btf.now given id (Func c.args.func.now) there there.kind_is n.0 n.1 c.args.resolver.now.answers below c.is_supported.new.self.answers c.is_supported-2.new.self.answers c.is_supported-2.result (subst (λ (b : Bool). NextAnswers c.args.resolver.now.answers features.Func b c.is_supported.new.self.answers) c.if-not-is_supported.false (asks_next (words g.row.F g.F.FnMut).step features.Func c.args.resolver.now c.is_supported.new.self c.is_supported.result c.is_supported.ensures.asks)) (asks_next (words g.row.F g.F.FnMut).step features.FuncGlobal c.is_supported.new.self c.is_supported-2.new.self c.is_supported-2.result c.is_supported-2.ensures.asks)
@@ -126,7 +126,7 @@ returns-then-is_builtin-clause-steps g c = λ given id made comes. let there = c
     let n = read_name c.args.btf.now.strings c.name_offset-name_offset.result c.args.func.now.name c.in_ok-check_name.ensures c.name_offset-name_offset.ensures.value in (
       one_asked c.args.btf.now given id (Func c.args.func.now) there there.kind_is n.0 n.1 c.args.resolver.now.answers below c.is_supported.new.self.answers c.is_supported.result (asks_next (words g.row.F g.F.FnMut).step features.Func c.args.resolver.now c.is_supported.new.self c.is_supported.result c.is_supported.ensures.asks)
           (and_third c.is_supported.result (is_global c.args.func.now) (is_builtin n.0) (is_known c.args.btf.now.strings c.strings_from.result.now n.0 c.name_offset-name_offset.result c.args.func.now.name c.is_builtin.result c.strings_from.ensures c.name_offset-name_offset.ensures.value n.1 c.is_builtin.ensures ∙ c.if-is_builtin.true)),
-      func_static (pass_on c.args.btf.now given c.is_supported.new.self.answers) id (Func c.args.func.now) there there.kind_is made here n.0 n.1 refl (Func c.in_ok-made_static.field-0) refl (one_granted c.args.btf.now given id (Func c.args.func.now) there there.kind_is n.0 n.1 c.args.resolver.now.answers below c.is_supported.new.self.answers c.is_supported.result (asks_next (words g.row.F g.F.FnMut).step features.Func c.args.resolver.now c.is_supported.new.self c.is_supported.result c.is_supported.ensures.asks) ∙ c.if-not-is_supported.false) (changes_if (is_global c.args.func.now) (is_builtin n.0) (has (pass_on c.args.btf.now given c.is_supported.new.self.answers) features.FuncGlobal) (linkage_global (vlen c.args.func.now.info) (sym c.linkage.ensures ∙ c.in-Global.is)) (is_known c.args.btf.now.strings c.strings_from.result.now n.0 c.name_offset-name_offset.result c.args.func.now.name c.is_builtin.result c.strings_from.ensures c.name_offset-name_offset.ensures.value n.1 c.is_builtin.ensures ∙ c.if-is_builtin.true)) c.in_ok-made_static.ensures,
+      func_static (pass_on c.args.btf.now given c.is_supported.new.self.answers) id (Func c.args.func.now) there there.kind_is made here n.0 n.1 refl (Func c.in_ok-make_static.field-0) refl (one_granted c.args.btf.now given id (Func c.args.func.now) there there.kind_is n.0 n.1 c.args.resolver.now.answers below c.is_supported.new.self.answers c.is_supported.result (asks_next (words g.row.F g.F.FnMut).step features.Func c.args.resolver.now c.is_supported.new.self c.is_supported.result c.is_supported.ensures.asks) ∙ c.if-not-is_supported.false) (changes_if (is_global c.args.func.now) (is_builtin n.0) (has (pass_on c.args.btf.now given c.is_supported.new.self.answers) features.FuncGlobal) (linkage_global (vlen c.args.func.now.info) (sym c.linkage.ensures ∙ c.in-Global.is)) (is_known c.args.btf.now.strings c.strings_from.result.now n.0 c.name_offset-name_offset.result c.args.func.now.name c.is_builtin.result c.strings_from.ensures c.name_offset-name_offset.ensures.value n.1 c.is_builtin.ensures ∙ c.if-is_builtin.true)) c.in_ok-make_static.ensures,
     )
 
 pub returns-then-is_supported-clause-steps : goal.returns-then-is_supported-clause-steps
@@ -144,7 +144,7 @@ returns-clause-steps g c = λ given id made comes. let there = comes.there in le
     let both = both_asked c.args.btf.now given id (Func c.args.func.now) there there.kind_is n.0 n.1 c.args.resolver.now.answers below c.is_supported.new.self.answers c.is_supported-2.new.self.answers c.is_supported-2.result (subst (λ (b : Bool). NextAnswers c.args.resolver.now.answers features.Func b c.is_supported.new.self.answers) c.if-not-is_supported.false (asks_next (words g.row.F g.F.FnMut).step features.Func c.args.resolver.now c.is_supported.new.self c.is_supported.result c.is_supported.ensures.asks)) (asks_next (words g.row.F g.F.FnMut).step features.FuncGlobal c.is_supported.new.self c.is_supported-2.new.self c.is_supported-2.result c.is_supported-2.ensures.asks)
     (linkage_global (vlen c.args.func.now.info) (sym c.linkage.ensures ∙ c.in-Global.is)) (is_known c.args.btf.now.strings c.strings_from.result.now n.0 c.name_offset-name_offset.result c.args.func.now.name c.is_builtin.result c.strings_from.ensures c.name_offset-name_offset.ensures.value n.1 c.is_builtin.ensures ∙ c.if-is_builtin.false) in (
       both.0,
-      func_static (pass_on c.args.btf.now given c.is_supported-2.new.self.answers) id (Func c.args.func.now) there there.kind_is made here n.0 n.1 refl (Func c.in_ok-made_static-2.field-0) refl both.1 (changes_else (is_global c.args.func.now) (is_builtin n.0) (has (pass_on c.args.btf.now given c.is_supported-2.new.self.answers) features.FuncGlobal) (linkage_global (vlen c.args.func.now.info) (sym c.linkage.ensures ∙ c.in-Global.is)) (is_known c.args.btf.now.strings c.strings_from.result.now n.0 c.name_offset-name_offset.result c.args.func.now.name c.is_builtin.result c.strings_from.ensures c.name_offset-name_offset.ensures.value n.1 c.is_builtin.ensures ∙ c.if-is_builtin.false) (both.2 ∙ c.if-is_supported.false)) c.in_ok-made_static-2.ensures,
+      func_static (pass_on c.args.btf.now given c.is_supported-2.new.self.answers) id (Func c.args.func.now) there there.kind_is made here n.0 n.1 refl (Func c.in_ok-make_static-2.field-0) refl both.1 (changes_else (is_global c.args.func.now) (is_builtin n.0) (has (pass_on c.args.btf.now given c.is_supported-2.new.self.answers) features.FuncGlobal) (linkage_global (vlen c.args.func.now.info) (sym c.linkage.ensures ∙ c.in-Global.is)) (is_known c.args.btf.now.strings c.strings_from.result.now n.0 c.name_offset-name_offset.result c.args.func.now.name c.is_builtin.result c.strings_from.ensures c.name_offset-name_offset.ensures.value n.1 c.is_builtin.ensures ∙ c.if-is_builtin.false) (both.2 ∙ c.if-is_supported.false)) c.in_ok-make_static-2.ensures,
     )
 
 pub returns-then-not-is_supported-clause-further : goal.returns-then-not-is_supported-clause-further
@@ -153,8 +153,8 @@ returns-then-not-is_supported-clause-further g c = asks_further (words g.row.F g
 pub returns-in_default-clause-further : goal.returns-in_default-clause-further
 returns-in_default-clause-further g c = asks_further (words g.row.F g.F.FnMut).step features.Func c.args.resolver.now c.is_supported.new.self c.is_supported.result c.is_supported.ensures.asks
 
-pub returns-in_err-made_static-clause-further : goal.returns-in_err-made_static-clause-further
-returns-in_err-made_static-clause-further g c = asks_further (words g.row.F g.F.FnMut).step features.Func c.args.resolver.now c.is_supported.new.self c.is_supported.result c.is_supported.ensures.asks
+pub returns-in_err-make_static-clause-further : goal.returns-in_err-make_static-clause-further
+returns-in_err-make_static-clause-further g c = asks_further (words g.row.F g.F.FnMut).step features.Func c.args.resolver.now c.is_supported.new.self c.is_supported.result c.is_supported.ensures.asks
 
 pub returns-then-is_builtin-clause-further : goal.returns-then-is_builtin-clause-further
 returns-then-is_builtin-clause-further g c = asks_further (words g.row.F g.F.FnMut).step features.Func c.args.resolver.now c.is_supported.new.self c.is_supported.result c.is_supported.ensures.asks
@@ -163,8 +163,8 @@ pub returns-then-is_supported-clause-further : goal.returns-then-is_supported-cl
 returns-then-is_supported-clause-further g c = further_then c.args.resolver.now.answers c.is_supported.new.self.answers c.is_supported-2.new.self.answers (asks_further (words g.row.F g.F.FnMut).step features.Func c.args.resolver.now c.is_supported.new.self c.is_supported.result c.is_supported.ensures.asks)
     (asks_further (words g.row.F g.F.FnMut).step features.FuncGlobal c.is_supported.new.self c.is_supported-2.new.self c.is_supported-2.result c.is_supported-2.ensures.asks)
 
-pub returns-in_err-made_static-2-clause-further : goal.returns-in_err-made_static-2-clause-further
-returns-in_err-made_static-2-clause-further g c = further_then c.args.resolver.now.answers c.is_supported.new.self.answers c.is_supported-2.new.self.answers (asks_further (words g.row.F g.F.FnMut).step features.Func c.args.resolver.now c.is_supported.new.self c.is_supported.result c.is_supported.ensures.asks)
+pub returns-in_err-make_static-2-clause-further : goal.returns-in_err-make_static-2-clause-further
+returns-in_err-make_static-2-clause-further g c = further_then c.args.resolver.now.answers c.is_supported.new.self.answers c.is_supported-2.new.self.answers (asks_further (words g.row.F g.F.FnMut).step features.Func c.args.resolver.now c.is_supported.new.self c.is_supported.result c.is_supported.ensures.asks)
     (asks_further (words g.row.F g.F.FnMut).step features.FuncGlobal c.is_supported.new.self c.is_supported-2.new.self c.is_supported-2.result c.is_supported-2.ensures.asks)
 
 pub returns-clause-further : goal.returns-clause-further

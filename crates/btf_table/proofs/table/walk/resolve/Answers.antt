@@ -16,5 +16,5 @@ returns-in-None c =
       omega arith,
       refl,
       ap (unmodified_in c.args.type_id) (found c.args.types.now c.args.type_id c.in-Some.btf_type.now c.in-Some.ensures.lookup.0 c.in-Some.ensures.lookup.1)
-          ∙ ap (after_modifier c.args.type_id) (sym c.modified.ensures ∙ c.in-None.is),
+          ∙ ap (after_modifier c.args.type_id) (sym c.modified_type.ensures ∙ c.in-None.is),
     )

@@ -11,24 +11,24 @@ pub returns-in_default : goal.returns-in_default
 returns-in_default c =
     (UnknownBtfType c.loop.id, refl, inl (c.loop.counter, c.loop.id, c.loop-test.true, c.loop.invariant, ap (unmodified_in c.loop.id) (missing c.args.types.now c.loop.id c.in_default.ensures.lookup.0)))
 
-pub returns-in_default-modified : goal.returns-in_default-modified
-returns-in_default-modified c =
+pub returns-in_default-modified_type : goal.returns-in_default-modified_type
+returns-in_default-modified_type c =
     inl (
       c.loop.counter,
       c.loop.id,
       c.loop-test.true,
       c.loop.invariant,
       ap (unmodified_in c.loop.id) (found c.args.types.now c.loop.id c.in-Some.btf_type.now c.in-Some.ensures.lookup.0 c.in-Some.ensures.lookup.1)
-          ∙ ap (after_modifier c.loop.id) (sym c.modified.ensures ∙ c.in_default-modified.is),
+          ∙ ap (after_modifier c.loop.id) (sym c.modified_type.ensures ∙ c.in_default-modified_type.is),
     )
 
 pub loop-preserved : goal.loop-preserved
 loop-preserved c =
     let find : _ = λ (at : ℕ). unmodified_in at (slice_get (map record_of c.args.types.now) at) in
-    as_many (By find) (suc c.loop.counter) (c.loop.counter + 1) c.args.type_id c.in-Some-modified.next (omega arith)
-    (lead_on (By find) c.loop.counter c.args.type_id c.loop.id c.in-Some-modified.next c.loop.invariant
+    as_many (By find) (suc c.loop.counter) (c.loop.counter + 1) c.args.type_id c.in-Some-modified_type.next (omega arith)
+    (lead_on (By find) c.loop.counter c.args.type_id c.loop.id c.in-Some-modified_type.next c.loop.invariant
     (ap (unmodified_in c.loop.id) (found c.args.types.now c.loop.id c.in-Some.btf_type.now c.in-Some.ensures.lookup.0 c.in-Some.ensures.lookup.1)
-    ∙ ap (after_modifier c.loop.id) (sym c.modified.ensures ∙ c.in-Some-modified.is)))
+    ∙ ap (after_modifier c.loop.id) (sym c.modified_type.ensures ∙ c.in-Some-modified_type.is)))
 
 pub returns : goal.returns
 returns c =

@@ -1,5 +1,0 @@
-use Rattle.btf_object.proofs.Externs.{AreLaidOutBefore}
-use Rattle.btf_object.proofs.finalize.kconfig.laid_out.Given as goal
-
-abbrev pub invariant-loop-it : goal.invariant-loop-it
-invariant-loop-it l = AreLaidOutBefore l.externs l.it-index l.entries.items l.size

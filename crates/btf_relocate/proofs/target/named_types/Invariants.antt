@@ -1,6 +1,0 @@
--- The entries are those of the types so far.
-use Rattle.btf_relocate.proofs.Indexes.{Before}
-use Rattle.btf_relocate.proofs.target.named_types.Given as goal
-
-abbrev pub invariant-loop-type_id : goal.invariant-loop-type_id
-invariant-loop-type_id l = Before l.table l.entries.items l.type_id
