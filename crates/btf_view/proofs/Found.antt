@@ -13,7 +13,7 @@ use Rattle.btf_table.specs.BtfStr.{HasName}
 use Rattle.btf_table.specs.Readable.{IsReadableEnd}
 use Rattle.btf_table.proofs.Names.{passed_one}
 use Rattle.btf_view.specs.Places.{AreIndexed, IsPlace}
-use Rattle.btf_view.specs.Record.{HasHead, IsReadAs}
+use Rattle.btf_view.specs.Record.{IsReadAs}
 use Rattle.btf_view.specs.Finding.{LooksUp}
 use Rattle.btf_view.specs.declared.finding.Lookup.TheVariants.{Found, Unreadable}
 use Rattle.btf_view.proofs.KindNames.{kept_kind, one_number}
@@ -44,15 +44,15 @@ other_kind strings records id number n raw k name s is n-is differ below =
     (inl (λ has. differ (one_number n number k (ap (slice_get model.kinds) n-is ∙ sym (kind_seen records id raw s) ∙ has) is)))
 
 -- another name
-pub other_name : (strings : List ℕ) (records : List Record) (id : ℕ) (raw head : Head) (k : Kind) (name : List ℕ) (s : Seen records id raw) → HasHead head s.seen → HasName strings head.name name (Ok false) → ArePassed strings records k name id → (low : ℕ) (r : Record) → low < id + 1 → slice_get records low ≡ Some r → IsPassed strings k name r
-other_name strings records id raw head k name s has named below =
-    passed_one strings records k name id s.seen below s.there (inr (subst (λ (o : ℕ). HasName strings o name (Ok false)) has.name named))
+pub other_name : (strings : List ℕ) (records : List Record) (id : ℕ) (raw : Head) (offset : ℕ) (k : Kind) (name : List ℕ) (s : Seen records id raw) → offset ≡ s.seen.name → HasName strings offset name (Ok false) → ArePassed strings records k name id → (low : ℕ) (r : Record) → low < id + 1 → slice_get records low ≡ Some r → IsPassed strings k name r
+other_name strings records id raw offset k name s at named below =
+    passed_one strings records k name id s.seen below s.there (inr (subst (λ (o : ℕ). HasName strings o name (Ok false)) at named))
 
 -- the name
-pub found_there : (strings : List ℕ) (records : List Record) (id : ℕ) (raw head : Head) (k : Kind) (name : List ℕ) (s : Seen records id raw) → HasHead head s.seen → kind_of s.seen.info ≡ Some k → HasName strings head.name name (Ok true) → ArePassed strings records k name id → LooksUp strings records k name (Found id)
-found_there strings records id raw head k name s has kind named below = (s.seen, (below, s.there, kind), subst (λ (o : ℕ). HasName strings o name (Ok true)) has.name named)
+pub found_there : (strings : List ℕ) (records : List Record) (id : ℕ) (raw : Head) (offset : ℕ) (k : Kind) (name : List ℕ) (s : Seen records id raw) → offset ≡ s.seen.name → kind_of s.seen.info ≡ Some k → HasName strings offset name (Ok true) → ArePassed strings records k name id → LooksUp strings records k name (Found id)
+found_there strings records id raw offset k name s at kind named below = (s.seen, (below, s.there, kind), subst (λ (o : ℕ). HasName strings o name (Ok true)) at named)
 
 -- a name that can't be read
-pub unread_there : (strings : List ℕ) (records : List Record) (id end : ℕ) (raw head : Head) (k : Kind) (name : List ℕ) (s : Seen records id raw) → HasHead head s.seen → kind_of s.seen.info ≡ Some k → IsReadableEnd strings end → end ≤ head.name → ArePassed strings records k name id → LooksUp strings records k name (Unreadable head.name)
-unread_there strings records id end raw head k name s has kind readable le below =
-    inl (id, s.seen, (below, s.there, kind), subst (λ (o : ℕ). text_at strings o ≡ Err (InvalidStringOffset head.name)) has.name (readable.from head.name le))
+pub unread_there : (strings : List ℕ) (records : List Record) (id end : ℕ) (raw : Head) (offset : ℕ) (k : Kind) (name : List ℕ) (s : Seen records id raw) → offset ≡ s.seen.name → kind_of s.seen.info ≡ Some k → IsReadableEnd strings end → end ≤ offset → ArePassed strings records k name id → LooksUp strings records k name (Unreadable offset)
+unread_there strings records id end raw offset k name s at kind readable le below =
+    inl (id, s.seen, (below, s.there, kind), subst (λ (o : ℕ). text_at strings o ≡ Err (InvalidStringOffset offset)) at (readable.from offset le))

@@ -9,7 +9,7 @@ use Rattle.btf_model.specs.Spelling.{kept}
 use Rattle.btf_plain.specs.Kind.{kind}
 use Rattle.btf_plain.specs.declared.kind.BtfKind.{BtfKind}
 use Rattle.btf_plain.specs.declared.kind.BtfKind.TheVariants as code
-use Rattle.btf_model.specs.Walk.{extent}
+use Rattle.btf_model.specs.Walk.{extent, modified}
 use Rattle.btf_plain.specs.Head.{headed}
 use Rattle.btf_plain.specs.declared.head.Head.{Head}
 use Rattle.btf_view.specs.Forms.{members}
@@ -109,6 +109,52 @@ kept_extent model.Float r = refl
 kept_extent model.DeclTag r = refl
 kept_extent model.TypeTag r = refl
 kept_extent model.Enum64 r = refl
+
+-- or the type that it modifies
+pub kept_modified : (k : Kind) (r : Record) → modified (Some k) (kept k r) ≡ modified (Some k) r
+kept_modified model.Unknown r = refl
+kept_modified model.Int r = refl
+kept_modified model.Ptr r = refl
+kept_modified model.Array r = refl
+kept_modified model.Struct r = refl
+kept_modified model.Union r = refl
+kept_modified model.Enum r = refl
+kept_modified model.Fwd r = refl
+kept_modified model.Typedef r = refl
+kept_modified model.Volatile r = refl
+kept_modified model.Const r = refl
+kept_modified model.Restrict r = refl
+kept_modified model.Func r = refl
+kept_modified model.FuncProto r = refl
+kept_modified model.Var r = refl
+kept_modified model.DataSec r = refl
+kept_modified model.Float r = refl
+kept_modified model.DeclTag r = refl
+kept_modified model.TypeTag r = refl
+kept_modified model.Enum64 r = refl
+
+-- or its name, if it has one
+pub kept_name : (k : Kind) (r : Record) → k ≢ model.Unknown → (kept k r).name ≡ r.name
+kept_name model.Unknown r named = absurd (named refl)
+kept_name model.Int r named = refl
+kept_name model.Ptr r named = refl
+kept_name model.Array r named = refl
+kept_name model.Struct r named = refl
+kept_name model.Union r named = refl
+kept_name model.Enum r named = refl
+kept_name model.Fwd r named = refl
+kept_name model.Typedef r named = refl
+kept_name model.Volatile r named = refl
+kept_name model.Const r named = refl
+kept_name model.Restrict r named = refl
+kept_name model.Func r named = refl
+kept_name model.FuncProto r named = refl
+kept_name model.Var r named = refl
+kept_name model.DataSec r named = refl
+kept_name model.Float r named = refl
+kept_name model.DeclTag r named = refl
+kept_name model.TypeTag r named = refl
+kept_name model.Enum64 r named = refl
 
 -- the kinds of which reading retains the whole head
 pub whole_head : (k : Kind) (head : Head) (tail : List ℕ) → k ≢ model.Unknown → k ≢ model.Array → k ≢ model.Fwd → HasHead head (kept k (headed head tail))

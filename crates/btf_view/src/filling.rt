@@ -4,11 +4,32 @@ ghost use Rattle.std.specs.Prelude.{◌≡◌, ◌*◌, ◌<◌, ◌≤◌, ◌^
 ghost use Rattle.btf_model.specs.Record.{Record, vlen};
 ghost use Rattle.btf_model.specs.Word.{words_at};
 ghost use Rattle.btf_view.specs.Forms.{Begins, members_in, words_in};
-ghost use Rattle.btf_view.specs.Places.{AreIndexed, ArePlaces};
+ghost use Rattle.btf_view.specs.Places.{AreIndexed, ArePlaces, IsPlace};
 
 use crate::forms::{Member, TypeWords, member_of, type_words};
-use crate::record::{head_at, word_at};
+use crate::record::{head_at, whole_head_at, word_at};
 use btf_plain::Endianness;
+
+/// Writes the first words of the type at a place. Most types take the short way.
+#[inline(always)]
+fn write_words(types: &[u8], place: u32, endianness: Endianness, slot: &mut TypeWords)
+    ensures { (r : Record) → IsPlace endianness types.now place r → slot.new ≡ words_in r }
+{
+    let Some(head) = whole_head_at(types, place, endianness) else {
+        write_any(types, place, endianness, slot);
+        return;
+    };
+    *slot = type_words(&head);
+}
+
+/// The same for each type. A call of its own keeps its values out of the registers of the loop.
+#[cold]
+#[inline(never)]
+fn write_any(types: &[u8], place: u32, endianness: Endianness, slot: &mut TypeWords)
+    ensures { (r : Record) → IsPlace endianness types.now place r → slot.new ≡ words_in r }
+{
+    *slot = type_words(&head_at(types, place, endianness));
+}
 
 /// Writes the first words of the types at these places, as many as fit, and returns their number.
 #[inline(always)]
@@ -18,7 +39,7 @@ fn fill_words(types: &[u8], places: &[u32], endianness: Endianness, out: &mut [T
 {
     let count = out.len().min(places.len());
     for index in 0..count {
-        out[index] = type_words(&head_at(types, places[index], endianness));
+        write_words(types, places[index], endianness, &mut out[index]);
     }
     count
 }

@@ -2,14 +2,15 @@
 
 ghost use Rattle.std.specs.Prelude.{◌≡◌, List, Some, slice_get};
 ghost use Rattle.btf_model.specs.Record as model;
-ghost use Rattle.btf_model.specs.Record.{Record};
+ghost use Rattle.btf_model.specs.Record.{Record, kind_number};
 ghost use Rattle.btf_plain.specs.Kind as kinds;
 ghost use Rattle.btf_view.specs.Finding.{LooksUp};
 ghost use Rattle.btf_view.specs.Places.{AreIndexed};
+ghost use Rattle.btf_view.specs.Record.{IsReadAs};
 
-use crate::record::{kept_head, raw_head_at};
+use crate::record::raw_head_at;
 use crate::text::{has_name_at, is_comparable, readable_end};
-use btf_plain::{BtfKind, Endianness};
+use btf_plain::{BtfKind, Endianness, Head};
 
 /// The result of looking up a kind and a name.
 #[derive(Clone, Copy, Debug, PartialEq, Eq)]
@@ -52,6 +53,15 @@ fn number_of(kind: BtfKind) -> u32
     }
 }
 
+/// What reading retains of the name of a record with this head, whose kind has this number: 0 for kind 0.
+#[inline(always)]
+fn kept_name(head: &Head, number: u32) -> u32
+    ensures { (r : Record) → IsReadAs head.now r → number ≡ kind_number head.now.info
+        → result ≡ r.name }
+{
+    if number == 0 { 0 } else { head.name }
+}
+
 /// The least id of a type of this kind and name. No name of the table is read to its end.
 #[inline(always)]
 pub(crate) fn find_in(
@@ -76,11 +86,11 @@ pub(crate) fn find_in(
         if raw.kind() != number {
             continue;
         }
-        let head = kept_head(raw);
-        if head.name as usize >= end {
-            return Lookup::Unreadable(head.name);
+        let offset = kept_name(&raw, number);
+        if offset as usize >= end {
+            return Lookup::Unreadable(offset);
         }
-        if has_name_at(strings, head.name, name) {
+        if has_name_at(strings, offset, name) {
             return Lookup::Found(id as u32);
         }
     }

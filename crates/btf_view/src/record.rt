@@ -1,6 +1,6 @@
 //! The words of the record at a place.
 
-ghost use Rattle.std.specs.Prelude.{◌≡◌, ◌+◌, ◌≤◌, ℕ, List, length, drop, Some};
+ghost use Rattle.std.specs.Prelude.{◌≡◌, ◌+◌, ◌≤◌, ℕ, List, length, drop, Some, IfSome, IsTrue};
 ghost use Rattle.btf_model.specs.Blob as blob;
 ghost use Rattle.btf_model.specs.Record.{Record, Kind, kind_of};
 ghost use Rattle.btf_model.specs.Spelling.{kept};
@@ -33,21 +33,29 @@ const NO_HEAD: Head = Head {
 /// A bit for the number of each kind of which reading does not retain the whole head: Unknown, ARRAY and FWD.
 const DROPPING: u32 = 0x89;
 
-/// What reading retains of a head. Most types have a kind of which it retains all, and one test finds that out.
+/// Whether reading retains the whole head. Most types have such a kind.
+#[inline(always)]
+fn is_whole(head: &Head) -> bool
+    ensures { IsTrue result → (k : Kind) (tail : List ℕ) → kind_of head.now.info ≡ Some k
+        → HasHead head.now (kept k (headed head.now tail)) }
+{
+    DROPPING >> head.kind() & 1 == 0
+}
+
+/// What reading retains of a head.
 #[inline(always)]
 pub(crate) fn kept_head(head: Head) -> Head
     ensures { (k : Kind) (tail : List ℕ) → kind_of head.info ≡ Some k
         → HasHead result (kept k (headed head tail)) }
 {
-    if DROPPING >> head.kind() & 1 == 0 {
+    if is_whole(&head) {
         return head;
     }
     dropped_head(head)
 }
 
 /// The same, kind by kind.
-#[cold]
-#[inline(never)]
+#[inline(always)]
 fn dropped_head(head: Head) -> Head
     ensures { (k : Kind) (tail : List ℕ) → kind_of head.info ≡ Some k
         → HasHead result (kept k (headed head tail)) }
@@ -85,6 +93,24 @@ pub(crate) fn head_at(types: &[u8], place: u32, endianness: Endianness) -> Head
     ensures { (r : Record) → IsPlace endianness types.now place r → HasHead result r }
 {
     kept_head(raw_head_at(types, place, endianness))
+}
+
+/// The first three words of the record at a place, if there is one and reading retains all three.
+#[inline(always)]
+pub(crate) fn whole_head_at(types: &[u8], place: u32, endianness: Endianness) -> Option<Head>
+    ensures { IfSome result (λ head. (r : Record) → IsPlace endianness types.now place r
+        → HasHead head r) }
+{
+    let at = place as usize;
+    if types.len() < at + 12 {
+        return None;
+    }
+    let head = Head {
+        name: word_at(types, at, endianness),
+        info: word_at(types, at + 4, endianness),
+        third: word_at(types, at + 8, endianness),
+    };
+    if is_whole(&head) { Some(head) } else { None }
 }
 
 /// The bytes after the first three words of the record at a place; none if the place is past the section.

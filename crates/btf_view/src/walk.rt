@@ -1,34 +1,46 @@
 //! Walks from type to type.
 
-ghost use Rattle.std.specs.Prelude.{◌≡◌, ◌+◌, ◌-◌, ◌<◌, ◌≤◌, ◌^◌, List, length, min};
+ghost use Rattle.std.specs.Prelude.{◌≡◌, ◌+◌, ◌-◌, ◌<◌, ◌≤◌, ◌^◌, List, Some, length, min};
 ghost use Rattle.btf_model.specs.Record.{Record};
+ghost use Rattle.btf_model.specs.Walk as model;
 ghost use Rattle.btf_model.specs.Walk.{modified_type, Resolves};
 ghost use Rattle.btf_plain.specs.Error.{Meets};
+ghost use Rattle.btf_plain.specs.Kind as kinds;
 ghost use Rattle.btf_view.specs.Many.{FillsResolved, ResolvedOrMost};
 ghost use Rattle.btf_view.specs.Places.{AreIndexed};
-ghost use Rattle.btf_view.specs.Record.{HasHead};
+ghost use Rattle.btf_view.specs.Record.{IsReadAs};
 
-use crate::record::head_at;
+use crate::record::raw_head_at;
 use btf_plain::{BtfError, BtfKind, Endianness, Head};
 
 /// The maximum number of types that a walk visits.
 pub const WALK_LIMIT: usize = 32;
 
-/// The id of the type that a modifier describes; None for a type of another kind.
+/// The id of the type that a modifier of this kind describes, by its third word; None for another kind.
 #[inline(always)]
-fn modified(head: &Head) -> Option<u32>
-    ensures { (r : Record) → HasHead head.now r → result ≡ modified_type r }
+fn modified_by(kind: BtfKind, third: u32) -> Option<u32>
+    ensures { (r : Record) → third ≡ r.third
+        → result ≡ model.modified (Some (kinds.kind kind)) r }
 {
-    match BtfKind::try_from(head.kind()) {
-        Ok(
-            BtfKind::Typedef
-            | BtfKind::Volatile
-            | BtfKind::Const
-            | BtfKind::Restrict
-            | BtfKind::TypeTag,
-        ) => Some(head.third),
+    match kind {
+        BtfKind::Typedef
+        | BtfKind::Volatile
+        | BtfKind::Const
+        | BtfKind::Restrict
+        | BtfKind::TypeTag => Some(third),
         _ => None,
     }
+}
+
+/// The id of the type that a modifier with this head describes; None for a type of another kind.
+#[inline(always)]
+fn modified(head: &Head) -> Option<u32>
+    ensures { (r : Record) → IsReadAs head.now r → result ≡ modified_type r }
+{
+    let Ok(kind) = BtfKind::try_from(head.kind()) else {
+        return None;
+    };
+    modified_by(kind, head.third)
 }
 
 /// The id of the first type that is no modifier, on the walk over modifiers from an id on.
@@ -47,7 +59,7 @@ pub(crate) fn resolve_from(
         let Some(place) = places.get(id as usize) else {
             return Err(BtfError::UnknownBtfType { type_id: id });
         };
-        let head = head_at(types, *place, endianness);
+        let head = raw_head_at(types, *place, endianness);
         let Some(next) = modified(&head) else {
             return Ok(id);
         };

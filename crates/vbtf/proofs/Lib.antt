@@ -18,3 +18,4 @@ pub mod Listing
 pub mod Search
 pub mod IndexFinding
 mod Naming
+pub mod Viewing

@@ -22,3 +22,4 @@ pub mod Finding
 pub mod IndexFinding
 pub mod Section
 pub mod Aligning
+pub mod View

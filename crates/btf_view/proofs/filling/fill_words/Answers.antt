@@ -17,8 +17,8 @@ loop-index-preserved c rs h =
     let low : i < length places = omega (arith, c.loop-index-test.true, c.min-count.ensures, min-le_right (length c.args.out.now) (length places)) in
     let room : i < length c.loop-index.out = omega (arith, c.loop-index-test.true, c.loop-index.auto.out, c.min-count.ensures, min-le_left (length c.args.out.now) (length places)) in
     let found = placed c.args.endianness c.args.types.now places rs i (get_or places i 0) h (slice_get-get_or places i 0 low) in
-    let words : words_in found.0 ≡ c.type_words.result = sym (c.type_words.ensures found.0 (c.head_at.ensures found.0 found.2)) in
-    one_written (map words_in rs) c.args.out.now c.loop-index.out i c.type_words.result (c.loop-index.invariant rs h) room
+    let words : words_in found.0 ≡ c.write_words.new.slot = sym (c.write_words.ensures found.0 found.2) in
+    one_written (map words_in rs) c.args.out.now c.loop-index.out i c.write_words.new.slot (c.loop-index.invariant rs h) room
     (slice_get-map words_in rs i ∙ ap (option_map words_in) found.1 ∙ ap (λ (w : TypeWords). Some w) words)
 
 pub returns : goal.returns

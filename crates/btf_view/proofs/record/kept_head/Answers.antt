@@ -1,20 +1,5 @@
-use Rattle.std.proofs.Common.{◌≡◌, ◌≢◌, ◌∙◌, ◌/◌, ◌^◌, ℕ, Some, refl, sym, ap, subst}
-use Rattle.std.proofs.Math.Nat.{suc-ne-zero}
-use Rattle.std.specs.Prelude.{bit_and, slice_get}
-use Rattle.btf_model.specs.Record as model
-use Rattle.btf_model.specs.Record.{Kind, kind_number}
-use Rattle.btf_view.proofs.KindNames.{one_number, whole_head}
+use Rattle.std.proofs.Common.{refl}
 use Rattle.btf_view.proofs.record.kept_head.Goals as goal
 
--- the kind of this number is another one, since the bit of its number is set
-other : (info n m : ℕ) (k j : Kind) → n ≡ kind_number info → slice_get model.kinds (kind_number info) ≡ Some k → bit_and (137 / 2 ^ n) 1 ≡ 0 → slice_get model.kinds m ≡ Some j → bit_and (137 / 2 ^ m) 1 ≡ 1 → k ≢ j
-other info n m k j n-is has off at on same =
-    let number : n ≡ m = n-is ∙ one_number (kind_number info) m j (has ∙ ap (λ (i : Kind). Some i) same) at in
-    suc-ne-zero 0 (sym on ∙ subst (λ (i : ℕ). bit_and (137 / 2 ^ i) 1 ≡ 0) number off)
-
-pub returns-then-kind-eq0 : goal.returns-then-kind-eq0
-returns-then-kind-eq0 c k tail has =
-    whole_head k c.args.head tail
-    (other c.args.head.info c.kind.result 0 k model.Unknown c.kind.ensures has c.if-kind-eq0.true refl refl)
-    (other c.args.head.info c.kind.result 3 k model.Array c.kind.ensures has c.if-kind-eq0.true refl refl)
-    (other c.args.head.info c.kind.result 7 k model.Fwd c.kind.ensures has c.if-kind-eq0.true refl refl)
+pub returns-then-is_whole : goal.returns-then-is_whole
+returns-then-is_whole c = c.if-is_whole.ensures refl

@@ -18,7 +18,7 @@ returns-in_default-modified c records h =
       c.loop.id,
       c.loop-test.true,
       c.loop.invariant records h,
-      ap (unmodified_in c.loop.id) found.1 ∙ ap (after_modifier c.loop.id) (sym (c.modified.ensures found.0 (c.head_at-head.ensures found.0 found.2)) ∙ c.in_default-modified.is),
+      ap (unmodified_in c.loop.id) found.1 ∙ ap (after_modifier c.loop.id) (sym (c.modified.ensures found.0 (c.raw_head_at-head.ensures found.0 found.2)) ∙ c.in_default-modified.is),
     )
 
 pub loop-preserved : goal.loop-preserved
@@ -27,7 +27,7 @@ loop-preserved c records h =
     let find : _ = λ (at : ℕ). unmodified_in at (slice_get records at) in
     as_many (By find) (suc c.loop.counter) (c.loop.counter + 1) c.args.type_id c.in-Some-modified.next (omega arith)
     (lead_on (By find) c.loop.counter c.args.type_id c.loop.id c.in-Some-modified.next (c.loop.invariant records h)
-    (ap (unmodified_in c.loop.id) found.1 ∙ ap (after_modifier c.loop.id) (sym (c.modified.ensures found.0 (c.head_at-head.ensures found.0 found.2)) ∙ c.in-Some-modified.is)))
+    (ap (unmodified_in c.loop.id) found.1 ∙ ap (after_modifier c.loop.id) (sym (c.modified.ensures found.0 (c.raw_head_at-head.ensures found.0 found.2)) ∙ c.in-Some-modified.is)))
 
 pub returns : goal.returns
 returns c records h =
