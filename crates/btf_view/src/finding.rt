@@ -1,6 +1,6 @@
 //! The type of a kind and a name.
 
-ghost use Rattle.std.specs.Prelude.{◌≡◌, List, Some, slice_get};
+ghost use Rattle.std.specs.Prelude.{◌≡◌, ◌≢◌, ◌∷◌, ◌++◌, ℕ, List, IsTrue, Some, get_or, slice_get};
 ghost use Rattle.btf_model.specs.Record as model;
 ghost use Rattle.btf_model.specs.Record.{Record, kind_number};
 ghost use Rattle.btf_plain.specs.Kind as kinds;
@@ -9,7 +9,7 @@ ghost use Rattle.btf_view.specs.Places.{AreIndexed};
 ghost use Rattle.btf_view.specs.Record.{IsReadAs};
 
 use crate::record::raw_head_at;
-use crate::text::{has_name_at, is_comparable, readable_end};
+use crate::text::{has_name_at, is_comparable, readable_end, strings_until};
 use btf_plain::{BtfKind, Endianness, Head};
 
 /// The result of looking up a kind and a name.
@@ -62,6 +62,26 @@ fn kept_name(head: &Head, number: u32) -> u32
     if number == 0 { 0 } else { head.name }
 }
 
+/// The first byte of a name, or the zero byte after an empty one.
+fn first_byte(name: &str) -> u8
+    ensures { (rest : List ℕ) → get_or (name.now ++ 0 ∷ rest) 0 0 ≡ result }
+{
+    name.as_bytes().first().copied().unwrap_or(0)
+}
+
+/// Whether a type with this head has another kind than the one of this number, or a name that begins with another byte.
+/// One branch tells most types from the one that is sought; a processor does not predict a branch on the kind alone.
+#[inline(always)]
+fn is_other(readable: &[u8], head: &Head, number: u32, first: u8) -> bool
+    ensures { IsTrue result → kind_number head.now.info ≡ number
+        → (byte : ℕ) × (slice_get readable.now head.now.name ≡ Some byte) × (byte ≢ first) }
+{
+    match readable.get(head.name as usize) {
+        Some(byte) => (head.kind() ^ number) | (*byte as u32 ^ first as u32) != 0,
+        None => false,
+    }
+}
+
 /// The least id of a type of this kind and name. No name of the table is read to its end.
 #[inline(always)]
 pub(crate) fn find_in(
@@ -80,9 +100,14 @@ pub(crate) fn find_in(
     }
     let number = number_of(kind);
     let end = readable_end(strings);
+    let readable = strings_until(strings, end);
+    let first = first_byte(name);
     let ids = places.len().min(u32::MAX as usize);
     for id in 0..ids {
         let raw = raw_head_at(types, places[id], endianness);
+        if number != 0 && is_other(readable, &raw, number, first) {
+            continue;
+        }
         if raw.kind() != number {
             continue;
         }

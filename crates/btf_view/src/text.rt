@@ -1,6 +1,6 @@
 //! Names in the string section.
 
-ghost use Rattle.std.specs.Prelude.{◌≡◌, ◌↔◌, ◌≢◌, ◌++◌, ℕ, List, IsTrue, drop};
+ghost use Rattle.std.specs.Prelude.{◌≡◌, ◌↔◌, ◌≢◌, ◌++◌, ℕ, List, IsTrue, drop, take};
 ghost use Rattle.std.specs.Option.{option_map};
 ghost use Rattle.btf_model.specs.Text.{bytes_at};
 ghost use Rattle.btf_table.specs.Readable.{HasNameAt, IsComparable, IsReadableEnd};
@@ -44,6 +44,14 @@ fn strings_from(strings: &[u8], offset: u32) -> &[u8]
     ensures { result.now ≡ drop offset strings.now }
 {
     strings.get(offset as usize..).unwrap_or(&[])
+}
+
+/// The strings up to an offset.
+#[inline(always)]
+pub(crate) fn strings_until(strings: &[u8], end: usize) -> &[u8]
+    ensures { result.now ≡ take end strings.now }
+{
+    strings.get(..end).unwrap_or(strings)
 }
 
 /// Whether the first bytes of both differ. Most names that a search passes do, and then it compares no more of them.

@@ -4,12 +4,20 @@ use Rattle.btf_model.specs.Text.{ArePassed}
 use Rattle.btf_plain.specs.Kind as kinds
 use Rattle.btf_table.specs.BtfStr.{HasName}
 use Rattle.btf_table.proofs.Names.{bytes_compared}
-use Rattle.btf_view.proofs.Found.{seen_at, same_kind, other_kind, other_name, found_there, unread_there}
+use Rattle.btf_view.proofs.Found.{seen_at, same_kind, other_kind, other_name, found_there, passed_other, unread_there}
 use Rattle.btf_view.proofs.Places.{as_many_places}
 use Rattle.btf_view.proofs.finding.find_in.Goals as goal
 
 pub loop-id-init : goal.loop-id-init
 loop-id-init c records h low r lt is = absurd (omega (arith, lt))
+
+pub loop-id-preserved-then-is_other : goal.loop-id-preserved-then-is_other
+loop-id-preserved-then-is_other c records h =
+    let places = c.args.places.now in
+    let low : c.loop-id.id < length places = omega (arith, c.loop-id-test.true, c.min-ids.ensures, min-le_left (length places) 4294967295) in
+    let s = seen_at c.args.endianness c.args.types.now places records c.loop-id.id c.raw_head_at-raw.result h low c.raw_head_at-raw.ensures in
+    passed_other c.args.strings.now c.strings_until-readable.result.now records c.loop-id.id c.number_of-number.result c.readable_end-end.result c.first_byte-first.result c.raw_head_at-raw.result (kinds.kind c.args.kind) c.args.name.now s c.number_of-number.ensures c.if-number-ne0.true
+    c.readable_end-end.ensures c.utf8.name (c.if-not-is_comparable.ensures.0 refl) c.strings_until-readable.ensures c.first_byte-first.ensures (c.if-is_other.ensures refl) (c.loop-id.invariant records h)
 
 pub loop-id-preserved-then-kind-number : goal.loop-id-preserved-then-kind-number
 loop-id-preserved-then-kind-number c records h =
