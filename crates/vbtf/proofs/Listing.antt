@@ -17,8 +17,8 @@ use Rattle.btf_plain.specs.declared.items.DataSecEntry.{DataSecEntry}
 use Rattle.btf_records.specs.BtfType.{record_of, type_kind}
 use Rattle.btf_records.specs.declared.btf_type.BtfType.{BtfType}
 use Rattle.btf_records.specs.declared.btf_type.BtfType.TheVariants as types
-use Rattle.vbtf.specs.Lists.{ItemsOf, ListsItems, member, members, members_in, variant, variants, variants_in, wide_variants_in, param, params, params_in, entry, entries, entries_in}
-use Rattle.vbtf.specs.Status.{Begins}
+use Rattle.vbtf.specs.Lists.{ItemsOf, variant, variants, variants_in, wide_variants_in, param, params, params_in, entry, entries, entries_in}
+use Rattle.btf_view.specs.Forms.{Begins, ListsItems, member, members, members_in}
 
 -- the forms of items are the items in their words
 pub members_listed : (info : ℕ) (ms : List BtfMember) → members_in info (flat_map member_words ms) ≡ map (λ m. member info m.name_offset m.btf_type m.offset) ms

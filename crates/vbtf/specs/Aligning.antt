@@ -5,7 +5,7 @@ use Rattle.btf_layout.specs.declared.alignments.Alignments.{Alignments}
 use Rattle.btf_layout_model.specs.Alignment.{HasAlignment}
 use Rattle.btf_model.specs.Record.{Record}
 use Rattle.btf_model.specs.Refusal.{Refusal}
-use Rattle.vbtf.specs.Many.{FillsIds}
+use Rattle.btf_view.specs.Many.{FillsIds}
 use Rattle.vbtf.specs.Status.{ReportsNoMemory}
 use Rattle.vbtf.specs.declared.fault.Fault.{Fault}
 

@@ -14,7 +14,6 @@ pub mod ExtRead
 pub mod Object
 pub mod Relocate
 pub mod Resolved
-pub mod Many
 pub mod Lists
 pub mod Lent
 pub mod Naming

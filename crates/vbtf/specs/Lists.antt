@@ -3,26 +3,14 @@
 -- "BTF_KIND_ENUM", "BTF_KIND_ENUM64", "BTF_KIND_FUNC_PROTO" and "BTF_KIND_DATASEC".
 use Rattle.std.specs.Prelude.{◌≡◌, ◌⊎◌, ◌≤◌, ◌+◌, ◌*◌, ◌^◌, ℕ, refl, List, [], ◌∷◌, take, length, Option, Some, None, Result, Ok, Err, slice_get}
 use Rattle.btf_model.specs.Record as kinds
-use Rattle.btf_model.specs.Record.{Kind, Record, kind_of, kind_flag, member_bit_offset, member_bit_field_size}
+use Rattle.btf_model.specs.Record.{Kind, Record, kind_of, kind_flag}
 use Rattle.btf_model.specs.Refusal.{Refusal, UnknownBtfType, UnexpectedBtfType}
-use Rattle.btf_plain.specs.Error.{refusal_of}
-use Rattle.btf_plain.specs.declared.error.BtfError.{BtfError}
-use Rattle.vbtf.specs.Status.{Begins, ReportsRefusal}
+use Rattle.btf_view.specs.Forms.{Begins, member, members_in}
+use Rattle.vbtf.specs.Status.{ReportsRefusal}
 use Rattle.vbtf.specs.declared.fault.Fault.{Fault}
-use Rattle.vbtf.specs.declared.lists.Member.{Member}
 use Rattle.vbtf.specs.declared.lists.Variant.{Variant}
 use Rattle.vbtf.specs.declared.lists.Param.{Param}
 use Rattle.vbtf.specs.declared.lists.Entry.{Entry}
-
--- a member of a record with this info word, by the three words of the member
-abbrev pub member : ℕ → ℕ → ℕ → ℕ → Member
-member info name target offset =
-    record {
-      name_offset = name;
-      btf_type = target;
-      bit_offset = member_bit_offset info offset;
-      bit_field_size = member_bit_field_size info offset;
-    }
 
 -- a variant of a record with this info word: the values are signed if the kind flag is set
 abbrev pub variant : ℕ → ℕ → ℕ → ℕ → Variant
@@ -35,11 +23,7 @@ param name target = record { name_offset = name; btf_type = target }
 abbrev pub entry : ℕ → ℕ → ℕ → Entry
 entry target offset size = record { btf_type = target; offset = offset; size = size }
 
--- The items in the words after the third of a record with this info word, each of three or two words.
-abbrev pub members_in : ℕ → List ℕ → List Member
-members_in info (name ∷ target ∷ offset ∷ rest) = member info name target offset ∷ members_in info rest
-members_in info words = []
-
+-- The items in the words after the third of a record with this info word, each of two or three words.
 abbrev pub variants_in : ℕ → List ℕ → List Variant
 variants_in info (name ∷ value ∷ rest) = variant info 32 name value ∷ variants_in info rest
 variants_in info words = []
@@ -58,12 +42,7 @@ abbrev pub entries_in : List ℕ → List Entry
 entries_in (target ∷ offset ∷ size ∷ rest) = entry target offset size ∷ entries_in rest
 entries_in words = []
 
--- The members, variants, parameters or entries of a record of this kind; None if records of the kind have none.
-abbrev pub members : Kind → Record → Option (List Member)
-members kinds.Struct r = Some (members_in r.info r.tail)
-members kinds.Union r = Some (members_in r.info r.tail)
-members k r = None
-
+-- The variants, parameters or entries of a record of this kind; None if records of the kind have none.
 abbrev pub variants : Kind → Record → Option (List Variant)
 variants kinds.Enum r = Some (variants_in r.info r.tail)
 variants kinds.Enum64 r = Some (wide_variants_in r.info r.tail)
@@ -88,14 +67,8 @@ ItemsOf items_of records id (Err refusal) =
     ⊎ ((k : Kind) × (r : Record) × (slice_get records id ≡ Some r) × (kind_of r.info ≡ Some k) × (items_of k r ≡ None)
     × (refusal ≡ UnexpectedBtfType id))
 
--- The outcomes of writing items to a buffer: items that meet P are written, as many as fit; or an error that meets P,
--- and the buffer is unchanged.
-abbrev pub ListsItems : {X : Type 0} → List X → List X → Result ℕ BtfError → (Result (List X) Refusal → Type 0) → Type 0
-ListsItems {X} old new (Ok count) P = (items : List X) × Begins (take (length old) items) old new count × P (Ok items)
-ListsItems old new (Err error) P =
-    (new ≡ old) × (refusal : Refusal) × (refusal_of error ≡ Some refusal) × P (Err refusal)
-
--- The outcomes of a call that writes items to a buffer: the same, with status 0 or the error's status.
+-- The outcomes of a call that writes items to a buffer: items that meet P are written, as many as fit, with status 0; or
+-- the status is that of an error that meets P, and the buffer is unchanged.
 abbrev pub EndsListing : {X : Type 0} → ℕ → List X → List X → ℕ → Fault → (Result (List X) Refusal → Type 0) → Type 0
 EndsListing {X} status old new count fault P =
     ((status ≡ 0) × (items : List X) × Begins (take (length old) items) old new count × P (Ok items))

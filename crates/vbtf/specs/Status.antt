@@ -154,10 +154,6 @@ Fills items old new needed status =
     × (((status ≡ 0) × (length items ≤ length old) × (new ≡ items ++ drop (length items) old))
     ⊎ ((status ≡ 100) × (length old < length items) × (new ≡ old)))
 
--- A buffer begins with these values, whose number is count, and the rest of it is unchanged.
-abbrev pub Begins : {X : Type 0} → List X → List X → List X → ℕ → Type 0
-Begins items old new count = (count ≡ length items) × (new ≡ items ++ drop count old)
-
 -- The outcomes of a call that writes a text to a buffer: a text, or a failed allocation, and the buffer is unchanged.
 abbrev pub WritesText : List ℕ → List ℕ → ℕ → ℕ → Type 0
 WritesText old new needed status =

@@ -1,13 +1,11 @@
 -- The outcomes of the calls that read a blob by the places of its records.
-use Rattle.std.specs.Prelude.{◌≡◌, ◌⊎◌, ◌+◌, ◌*◌, ◌≤◌, ℕ, List, length, take, Result, Ok, Err}
+use Rattle.std.specs.Prelude.{◌≡◌, ◌⊎◌, ◌+◌, ◌*◌, ◌≤◌, ℕ, List, length, take}
 use Rattle.btf_model.specs.declared.endianness.Endianness.{Endianness}
 use Rattle.btf_model.specs.Refusal.{Refusal}
 use Rattle.btf_model.specs.Table.{Table}
 use Rattle.btf_model.specs.Blob.{IsRefusal, IsTable, header_of, slice}
 use Rattle.btf_table.specs.Readable.{IsReadableEnd}
-use Rattle.btf_view.specs.Forms.{Begins}
 use Rattle.btf_view.specs.Places.{AreIndexed}
-use Rattle.btf_view.specs.declared.forms.Member.{Member}
 use Rattle.btf_view.specs.declared.indexing.Sections.{Sections}
 use Rattle.vbtf.specs.Orders.{order_number}
 use Rattle.vbtf.specs.Status.{ReportsRefusal}
@@ -50,10 +48,3 @@ EndsIndexing status order bytes places parts fault =
     ((status ≡ 0) × IsView order bytes places parts)
     ⊎ ((refusal : Refusal) × ReportsRefusal status fault refusal × IsRefusal order bytes refusal)
     ⊎ ((status ≡ 100) × (12 * length places ≤ (header_of order bytes).type_len))
-
--- The outcomes of a call that writes members to a buffer: members that meet P, with status 0; or an error that meets P,
--- and the buffer is unchanged.
-abbrev pub EndsMembers : ℕ → List Member → List Member → ℕ → Fault → (Result (List Member) Refusal → Type 0) → Type 0
-EndsMembers status old new count fault P =
-    ((status ≡ 0) × (items : List Member) × Begins (take (length old) items) old new count × P (Ok items))
-    ⊎ ((new ≡ old) × (refusal : Refusal) × ReportsRefusal status fault refusal × P (Err refusal))

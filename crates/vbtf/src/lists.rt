@@ -2,26 +2,14 @@
 
 ghost use Rattle.std.specs.Prelude.{◌≡◌, ◌≢◌, ◌+◌, ◌*◌, ◌^◌, length, take, map};
 ghost use Rattle.btf_model.specs.Record.{member_bit_field_size, member_bit_offset};
-ghost use Rattle.vbtf.specs.Lists.{EndsListing, ItemsOf, ListsItems, entries, entry, member, members, param, params, variant, variants};
-ghost use Rattle.vbtf.specs.Status.{Begins, KeepsHandle};
+ghost use Rattle.vbtf.specs.Lists.{EndsListing, ItemsOf, entries, entry, param, params, variant, variants};
+ghost use Rattle.btf_view.specs.Forms.{Begins, ListsItems, member, members};
+ghost use Rattle.vbtf.specs.Status.{KeepsHandle};
 
 use crate::fault::{CLOSED, Fault, report};
 use crate::handle::{Handle, take_loan};
 use btf::{Btf, BtfEnum, BtfEnum64, BtfError, BtfMember, BtfParam, BtfType, DataSecEntry};
-
-/// A member of a STRUCT or UNION.
-#[repr(C)]
-#[derive(Drop)]
-pub struct Member {
-    /// The string offset of the name.
-    pub name_offset: u32,
-    /// The id of the type.
-    pub btf_type: u32,
-    /// The bit at which the member begins.
-    pub bit_offset: u32,
-    /// The number of bits of a bit-field; 0 for a member that is none.
-    pub bit_field_size: u32,
-}
+use btf_view::Member;
 
 /// A variant of an ENUM or ENUM64.
 #[repr(C)]

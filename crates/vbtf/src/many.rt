@@ -2,15 +2,16 @@
 
 ghost use Rattle.std.specs.Prelude.{◌≡◌, ◌≢◌, ◌<◌, ◌+◌, ◌-◌, ◌^◌, length, take, drop, map, min};
 ghost use Rattle.btf_records.specs.BtfType.{record_of};
-ghost use Rattle.vbtf.specs.Many.{FillsResolved, FillsSizes, ResolvedOrMost, SizeOrMost};
-ghost use Rattle.vbtf.specs.Status.{Begins, KeepsHandle};
-ghost use Rattle.vbtf.specs.TypeWords.{words_in};
+ghost use Rattle.btf_view.specs.Many.{FillsResolved, FillsSizes, ResolvedOrMost, SizeOrMost};
+ghost use Rattle.btf_view.specs.Forms.{Begins, words_in};
+ghost use Rattle.vbtf.specs.Status.{KeepsHandle};
 
 use crate::fault::CLOSED;
 use crate::handle::{Handle, take_loan};
-use crate::read::{TypeWords, words};
+use crate::read::words;
 use btf::{Btf, BtfType};
 use btf_table::type_count;
+use btf_view::TypeWords;
 
 /// Writes the first words of the types from an id on, in the order of the ids, to a buffer: as many as there are and as
 /// fit. The number of types that are written goes to `count`; it is 0 if no type has the id.

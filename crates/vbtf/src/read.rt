@@ -6,12 +6,14 @@ ghost use Rattle.btf_model.specs.Record.{kinds};
 ghost use Rattle.btf_plain.specs.Error.{Meets};
 ghost use Rattle.btf_records.specs.BtfType.{record_of, type_kind, has_no_third};
 ghost use Rattle.vbtf.specs.Status.{EndsCall, KeepsHandle};
-ghost use Rattle.vbtf.specs.TypeWords.{WordsOf, words_in};
+ghost use Rattle.btf_view.specs.Forms.{words_in};
+ghost use Rattle.vbtf.specs.TypeWords.{WordsOf};
 ghost use Rattle.vbtf.specs.Finding.{EndsFindingName, AnswersName};
 
 use crate::fault::{CLOSED, Fault, INVALID_ARGUMENT, report};
 use crate::handle::{Handle, take_loan};
 use btf::{Btf, BtfError, BtfKind, BtfType};
+use btf_view::TypeWords;
 
 /// The number of types of a table, including the type of id 0.
 ///
@@ -36,21 +38,6 @@ fn count_of(table: &Btf) -> u64
     ensures { result ≡ length table.now.records }
 {
     table.types().as_slice().len() as u64
-}
-
-/// The first words of a type: its kind, its name, and its size or type.
-#[repr(C)]
-#[derive(Drop)]
-pub struct TypeWords {
-    /// The number of the kind, from 0 to 19.
-    pub kind: u32,
-    /// The string offset of the name.
-    pub name: u32,
-    /// The info word.
-    pub info: u32,
-    /// The third word of the record: the size in bytes or the id of another type, by the kind; 0 for the kinds that
-    /// have neither.
-    pub size_or_type: u32,
 }
 
 /// The first words of a type.
@@ -131,7 +118,7 @@ pub(crate) fn words(btf_type: &BtfType) -> TypeWords
     let info = btf_type.info();
     TypeWords {
         kind: info / 0x100_0000 % 32,
-        name: btf_type.name_offset(),
+        name_offset: btf_type.name_offset(),
         info,
         size_or_type: third_word(btf_type),
     }

@@ -14,9 +14,10 @@ ghost use Rattle.btf_table.specs.Readable.{IsComparable};
 ghost use Rattle.btf_view.specs.Forms.{Begins, MembersOf, words_in};
 ghost use Rattle.btf_view.specs.Many.{FillsResolved, FillsSizes};
 ghost use Rattle.btf_view.specs.Places.{AreIndexed};
+ghost use Rattle.vbtf.specs.Lists.{EndsListing};
 ghost use Rattle.vbtf.specs.Orders.{order_chosen, order_named};
 ghost use Rattle.vbtf.specs.Status.{EndsCall, ReportsRefusal};
-ghost use Rattle.vbtf.specs.View.{EndsIndexing, EndsMembers, IsViewOf};
+ghost use Rattle.vbtf.specs.View.{EndsIndexing, IsViewOf};
 
 use crate::fault::{Fault, INVALID_ARGUMENT, NAME_ROOM, NO_ROOM, report, write};
 use crate::orders::{choose_order, number_of, order_of};
@@ -283,7 +284,7 @@ pub extern "C" fn vbtf_raw_view_members(
 ) -> u32
     ensures listed { order ≤ 1 → (records : List Record)
         → AreIndexed (order_named order) types.now places.now records
-        → EndsMembers result out.old out.new count.new fault.new (MembersOf records id) }
+        → EndsListing result out.old out.new count.new fault.new (MembersOf records id) }
     ensures order { 1 < order → (result ≡ INVALID_ARGUMENT) × (out.new ≡ out.old) }
 {
     let Some(endianness) = order_of(order) else {

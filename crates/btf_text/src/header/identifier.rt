@@ -2,8 +2,8 @@
 
 use std::alloc::AllocError;
 
-/// The words that are no identifiers in C11 or in its GNU dialect, in the order of bytes.
-static KEYWORDS: [&str; 83] = [
+/// The words that begin with `_` and are no identifiers in C11 or in its GNU dialect, in the order of bytes.
+static RESERVED: [&str; 49] = [
     "_Alignas",
     "_Alignof",
     "_Atomic",
@@ -53,44 +53,7 @@ static KEYWORDS: [&str; 83] = [
     "__typeof__",
     "__volatile",
     "__volatile__",
-    "asm",
-    "auto",
-    "break",
-    "case",
-    "char",
-    "const",
-    "continue",
-    "default",
-    "do",
-    "double",
-    "else",
-    "enum",
-    "extern",
-    "float",
-    "for",
-    "goto",
-    "if",
-    "inline",
-    "int",
-    "long",
-    "register",
-    "restrict",
-    "return",
-    "short",
-    "signed",
-    "sizeof",
-    "static",
-    "struct",
-    "switch",
-    "typedef",
-    "typeof",
-    "union",
-    "unsigned",
-    "void",
 ];
-
-/// The other keywords, which come after `void` in the order of bytes.
-static LAST_KEYWORDS: [&str; 2] = ["volatile", "while"];
 
 /// The words of which C's names of numbers are made.
 static NUMBER_WORDS: [&str; 15] = [
@@ -131,10 +94,35 @@ fn is_word_byte(byte: u8) -> bool {
     byte.is_ascii_alphanumeric() || byte == b'_'
 }
 
+/// The other words that are no identifiers, by their first byte.
+fn keywords_from(first: u8) -> &'static [&'static str] {
+    match first {
+        b'a' => &["asm", "auto"],
+        b'b' => &["break"],
+        b'c' => &["case", "char", "const", "continue"],
+        b'd' => &["default", "do", "double"],
+        b'e' => &["else", "enum", "extern"],
+        b'f' => &["float", "for"],
+        b'g' => &["goto"],
+        b'i' => &["if", "inline", "int"],
+        b'l' => &["long"],
+        b'r' => &["register", "restrict", "return"],
+        b's' => &["short", "signed", "sizeof", "static", "struct", "switch"],
+        b't' => &["typedef", "typeof"],
+        b'u' => &["union", "unsigned"],
+        b'v' => &["void", "volatile"],
+        b'w' => &["while"],
+        _ => &[],
+    }
+}
+
 /// Whether a word of letters, digits and `_` is a keyword.
 fn is_keyword(word: &str) -> bool {
-    matches!(word.as_bytes().first(), Some(b'_' | b'a'..=b'w'))
-        && (KEYWORDS.binary_search(&word).is_ok() || LAST_KEYWORDS.contains(&word))
+    match word.as_bytes().first() {
+        Some(b'_') => RESERVED.binary_search(&word).is_ok(),
+        Some(first) => keywords_from(*first).contains(&word),
+        None => false,
+    }
 }
 
 /// Adds an identifier for a text that is none: a byte that may not be in an identifier is written as its two

@@ -203,22 +203,38 @@ impl Uses {
     /// Counts a use of a name, and returns its number. A type that is only declared has the same number as the first one
     /// of its tag.
     fn count(&mut self, alloc: Global, name: &str, naming: Naming) -> Result<u32, TextError> {
-        let is_defined = !naming.is_forward;
-        let Some(known) = self.uses.get_mut(name) else {
-            let new = Use {
-                tag: naming.tag,
-                is_defined,
-                last: 1,
-            };
-            self.uses.insert(String::from_str(alloc, name)?, new)?;
-            return Ok(1);
+        let new = Use {
+            tag: naming.tag,
+            is_defined: !naming.is_forward,
+            last: 1,
         };
-        if known.tag == naming.tag && !(is_defined && known.is_defined) {
-            known.is_defined = known.is_defined || is_defined;
+        // Most names are new, so that one search is enough.
+        match self.uses.insert(String::from_str(alloc, name)?, new)? {
+            None => Ok(1),
+            Some(known) => self.count_again(alloc, name, known, naming),
+        }
+    }
+
+    /// Counts a use of a name that was used before, and returns its number.
+    fn count_again(
+        &mut self,
+        alloc: Global,
+        name: &str,
+        known: Use,
+        naming: Naming,
+    ) -> Result<u32, TextError> {
+        let is_defined = !naming.is_forward;
+        let is_same = known.tag == naming.tag && !(is_defined && known.is_defined);
+        if let Some(used) = self.uses.get_mut(name) {
+            *used = Use {
+                is_defined: known.is_defined || is_same && is_defined,
+                ..known
+            };
+        }
+        if is_same {
             return Ok(1);
         }
-        let last = known.last;
-        self.count_further(alloc, name, last)
+        self.count_further(alloc, name, known.last)
     }
 
     /// Counts a further use of a name whose last number is this one, and returns its number. The name with the number is

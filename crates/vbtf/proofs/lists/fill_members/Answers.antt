@@ -2,7 +2,7 @@ use Rattle.std.proofs.Common.{◌∙◌, ap, refl, sym, ℕ}
 use Rattle.std.specs.Prelude.{map}
 use Rattle.btf_plain.specs.declared.items.BtfMember.{BtfMember}
 use Rattle.btf_records.specs.declared.btf_type.BtfType.TheVariants as types
-use Rattle.vbtf.specs.Lists.{member, members, members_in}
+use Rattle.btf_view.specs.Forms.{member, members, members_in}
 use Rattle.vbtf.proofs.Listing.{listed, members_listed, no_members, unexpected, unknown}
 use Rattle.vbtf.proofs.lists.fill_members.Goals as goal
 

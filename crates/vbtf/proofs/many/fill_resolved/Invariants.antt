@@ -1,6 +1,6 @@
 -- The places below the index have what their ids resolve to, and the others are unchanged.
 use Rattle.std.proofs.Common.{◌≡◌, ◌<◌, ◌+◌, ℕ, drop, get_or}
-use Rattle.vbtf.specs.Many.{ResolvedOrMost}
+use Rattle.btf_view.specs.Many.{ResolvedOrMost}
 use Rattle.vbtf.proofs.many.fill_resolved.Given as goal
 
 abbrev pub invariant-loop-index : goal.invariant-loop-index

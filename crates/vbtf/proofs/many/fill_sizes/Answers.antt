@@ -1,7 +1,7 @@
 use Rattle.std.proofs.Common.{◌≡◌, ◌∙◌, ◌<◌, ◌+◌, ◌-◌, ℕ, length, drop, ap, arith, subst, sym}
 use Rattle.std.proofs.Math.Nat.{min-le_left}
 use Rattle.std.proofs.lemmas.List.{drop-drop, drop-set-lt}
-use Rattle.vbtf.specs.Many.{SizeOrMost}
+use Rattle.btf_view.specs.Many.{SizeOrMost}
 use Rattle.vbtf.proofs.Places.{filled_more}
 use Rattle.vbtf.proofs.many.fill_sizes.Goals as goal
 

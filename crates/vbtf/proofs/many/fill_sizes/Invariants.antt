@@ -1,6 +1,6 @@
 -- The places below the index have the sizes for their ids, and the others are unchanged.
 use Rattle.std.proofs.Common.{◌≡◌, ◌<◌, ◌+◌, ℕ, drop, get_or}
-use Rattle.vbtf.specs.Many.{SizeOrMost}
+use Rattle.btf_view.specs.Many.{SizeOrMost}
 use Rattle.vbtf.proofs.many.fill_sizes.Given as goal
 
 abbrev pub invariant-loop-index : goal.invariant-loop-index

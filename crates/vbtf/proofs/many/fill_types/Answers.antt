@@ -4,9 +4,8 @@ use Rattle.std.proofs.lemmas.List.{drop-map, length-drop, take_all}
 use Rattle.btf_model.specs.Record.{Record}
 use Rattle.btf_records.specs.BtfType.{record_of}
 use Rattle.btf_records.specs.declared.btf_type.BtfType.{BtfType}
-use Rattle.vbtf.specs.Status.{Begins}
-use Rattle.vbtf.specs.TypeWords.{words_in}
-use Rattle.vbtf.specs.declared.read.TypeWords.{TypeWords}
+use Rattle.btf_view.specs.Forms.{Begins, words_in}
+use Rattle.btf_view.specs.declared.forms.TypeWords.{TypeWords}
 use Rattle.vbtf.proofs.many.fill_types.Goals as goal
 
 pub returns-in-Some : goal.returns-in-Some

@@ -4,8 +4,8 @@ use Rattle.std.proofs.Math.Nat.{min-le_right}
 use Rattle.std.proofs.lemmas.List.{length-map, length-take-le, take-append-drop, take-map, take_min}
 use Rattle.btf_records.specs.BtfType.{record_of}
 use Rattle.btf_records.specs.declared.btf_type.BtfType.{BtfType}
-use Rattle.vbtf.specs.TypeWords.{words_in}
-use Rattle.vbtf.specs.declared.read.TypeWords.{TypeWords}
+use Rattle.btf_view.specs.Forms.{words_in}
+use Rattle.btf_view.specs.declared.forms.TypeWords.{TypeWords}
 use Rattle.vbtf.proofs.Places.{map_twice}
 use Rattle.vbtf.proofs.many.fill_words.Goals as goal
 

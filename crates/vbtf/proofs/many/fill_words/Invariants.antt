@@ -3,7 +3,7 @@ use Rattle.std.proofs.Common.{◌≡◌, take, drop}
 use Rattle.std.specs.Prelude.{map}
 use Rattle.btf_records.specs.BtfType.{record_of}
 use Rattle.btf_records.specs.declared.btf_type.BtfType.{BtfType}
-use Rattle.vbtf.specs.TypeWords.{words_in}
+use Rattle.btf_view.specs.Forms.{words_in}
 use Rattle.vbtf.proofs.many.fill_words.Given as goal
 
 abbrev pub invariant-loop-index : goal.invariant-loop-index
