@@ -67,7 +67,8 @@ enum vbtf_status {
 	VBTF_RELOCATION_REFUSED = 107,   /* a relocation has an error: see vbtf_relocate and vbtf_relocate_object */
 	VBTF_SHARED_PLACE = 108,         /* another section has bytes in the place of the section of index offset */
 	VBTF_BAD_SECTION_NAME = 109,     /* the name of a section of relocations, at offset, cannot be read */
-	VBTF_NOT_READ = 110              /* vbtf_open.h: the file cannot be read; errno says why */
+	VBTF_NOT_READ = 110,             /* vbtf_open.h: the file cannot be read; errno says why */
+	VBTF_TOO_LONG = 111              /* vbtf_header: the text would be too long */
 };
 
 /* An error of the library. Fields that the error does not have are 0. */
@@ -379,6 +380,8 @@ uint32_t vbtf_lent_alignments(struct vbtf_table *table, uint32_t first, uint32_t
                               struct vbtf_error *error);
 uint32_t vbtf_lent_resolve(struct vbtf_table *table, uint32_t id, uint32_t *to, struct vbtf_error *error);
 uint32_t vbtf_lent_size(struct vbtf_table *table, uint32_t id, uint64_t *size, struct vbtf_error *error);
+uint32_t vbtf_lent_header(struct vbtf_table *table, uint8_t *out, size_t room, uint64_t *needed,
+                          struct vbtf_error *error);
 uint32_t vbtf_lent_text(struct vbtf_table *table, uint32_t offset, uint8_t *out, size_t room, uint64_t *needed,
                         struct vbtf_error *error);
 uint32_t vbtf_lent_name(struct vbtf_table *table, uint32_t offset, struct vbtf_name_bytes *name, size_t *len,

@@ -178,3 +178,8 @@ abbrev pub FillsWithoutMemory : List ℕ → ℕ → List ℕ → List ℕ → �
 FillsWithoutMemory strings offset old_out new_out needed fault result =
     IfSome (bytes_at strings offset) IsUtf8
     → FillsOrReports result old_out new_out needed fault (λ answer. answer ≡ text_at strings offset)
+
+-- The outcomes of a call that writes a text to a buffer, if the text is not defined here: some text fills the buffer, or
+-- the buffer is unchanged.
+abbrev pub FillsOrKeeps : List ℕ → List ℕ → ℕ → ℕ → Type 0
+FillsOrKeeps old new needed status = ((text : List ℕ) × Fills text old new needed status) ⊎ (new ≡ old)

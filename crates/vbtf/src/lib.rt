@@ -34,6 +34,7 @@ mod ext_read;
 mod fault;
 mod find;
 mod handle;
+mod header;
 mod indexed;
 mod items;
 mod kernel;
