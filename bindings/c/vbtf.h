@@ -720,6 +720,21 @@ VBTF_INLINE uint32_t vbtf_text_at(const struct vbtf_table *table, uint32_t offse
 }
 
 /*
+ * All types of the table as a C header, as `bpftool btf dump .. format c` writes it, without a zero byte after it.
+ * VBTF_UNKNOWN_TYPE, VBTF_UNEXPECTED_TYPE, VBTF_DEPTH_REACHED: no C declaration can have the type error.id.
+ * VBTF_TOO_LONG: the text would be far longer than the table. VBTF_NO_ROOM if the buffer is shorter than the text: then
+ * only `needed` is written, the length of the text.
+ */
+VBTF_INLINE uint32_t vbtf_header(const struct vbtf_table *table, void *out, size_t room, uint64_t *needed,
+                                 struct vbtf_error *error)
+{
+	struct vbtf_error unread;
+	struct vbtf_table loan = vbtf_loan(table);
+	uint8_t none;
+	return vbtf_lent_header(&loan, out ? (uint8_t *)out : &none, out ? room : 0, needed, vbtf_error_or(error, &unread));
+}
+
+/*
  * The name at a string offset, without a copy: a pointer to its first byte in the table, and the number of bytes before
  * its zero byte. They are the bytes of the table, whatever they are. They stay until the table is changed or closed.
  * VBTF_INVALID_STRING_OFFSET if no zero byte is at the offset or after it; `text` and `len` are then unchanged.

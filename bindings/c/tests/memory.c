@@ -119,6 +119,13 @@ static uint32_t text(struct vbtf_table *table)
 	return vbtf_text_at(table, 26, out, sizeof out, &needed, &error);
 }
 
+static uint32_t header(struct vbtf_table *table)
+{
+	uint64_t needed;
+	char out[4096];
+	return vbtf_header(table, out, sizeof out, &needed, &error);
+}
+
 static uint32_t missing(struct vbtf_table *table)
 {
 	uint32_t id;
@@ -266,6 +273,7 @@ static const struct {
 	{ "vbtf_index_find", missing_in_index },
 	{ "vbtf_bytes", write_out },
 	{ "vbtf_text_at", text },
+	{ "vbtf_header", header },
 	{ "vbtf_find", missing },
 	{ "vbtf_find_from", missing_from },
 	{ "vbtf_find_from", find_text },

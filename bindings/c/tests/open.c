@@ -1,7 +1,7 @@
 /*
  * Opens the tables of files: open OBJECT TABLE MISSING.., where OBJECT is an ELF object with sections .BTF and
  * .BTF.ext, TABLE has the bytes of a table, and each MISSING is a file without a table. Writes the number of types of
- * both.
+ * both. OBJECT.header has bpftool's C header of the object.
  */
 #include "file.h"
 #include "vbtf_open.h"
@@ -20,6 +20,22 @@ static void sections(struct file object)
 	check(object.bytes[section.offset] == (section.order == VBTF_BIG ? 0xeb : 0x9f));
 }
 
+/* The C header of a table is the text of a file, and a buffer that is shorter by a byte stays as it is. */
+static void header(const struct vbtf_table *table, const char *object)
+{
+	char path[4096];
+	uint64_t needed = 0;
+	struct file text;
+	snprintf(path, sizeof path, "%s.header", object);
+	text = read_file(path);
+	check(vbtf_header(table, NULL, 0, &needed, &error) == VBTF_NO_ROOM && needed == text.len);
+	char *out = calloc(1, text.len + 1);
+	check(vbtf_header(table, out, text.len - 1, &needed, &error) == VBTF_NO_ROOM && out[0] == 0);
+	check(vbtf_header(table, out, text.len, &needed, NULL) == VBTF_OK && memcmp(out, text.bytes, text.len) == 0);
+	free(out);
+	free(text.bytes);
+}
+
 int main(int argc, char **argv)
 {
 	struct vbtf_table table = VBTF_TABLE_INIT, base = VBTF_TABLE_INIT;
@@ -32,6 +48,7 @@ int main(int argc, char **argv)
 	sections(object);
 	check(vbtf_open_path(&table, NULL, argv[1], &error) == VBTF_OK && vbtf_count(&table, &count) == VBTF_OK);
 	check(vbtf_ext(&table, &sizes) == VBTF_OK && sizes.func_sections > 0);
+	header(&table, argv[1]);
 	check(vbtf_open_path(&table, NULL, argv[1], &error) == VBTF_BAD_ARGUMENT && table.state == 1);
 	vbtf_close(&table);
 	check(vbtf_open_path(&base, NULL, argv[2], &error) == VBTF_OK && vbtf_count(&base, &others) == VBTF_OK);

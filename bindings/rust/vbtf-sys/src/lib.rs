@@ -330,6 +330,13 @@ extern "C" {
         size: *mut u64,
         error: *mut vbtf_error,
     ) -> u32;
+    pub fn vbtf_lent_header(
+        table: *mut vbtf_table,
+        out: *mut u8,
+        room: usize,
+        needed: *mut u64,
+        error: *mut vbtf_error,
+    ) -> u32;
     pub fn vbtf_lent_text(
         table: *mut vbtf_table,
         offset: u32,

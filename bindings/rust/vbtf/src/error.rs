@@ -11,6 +11,7 @@ const NO_TABLE: u32 = 105;
 const RELOCATION_REFUSED: u32 = 107;
 const SHARED_PLACE: u32 = 108;
 const BAD_SECTION_NAME: u32 = 109;
+const TOO_LONG: u32 = 111;
 
 /// The text of a status that is no error of the library.
 fn own_text(status: u32) -> Option<&'static str> {
@@ -20,6 +21,7 @@ fn own_text(status: u32) -> Option<&'static str> {
         NO_TABLE => Some("the object has no section .BTF"),
         SHARED_PLACE => Some("a section with relocations shares its place with another section"),
         BAD_SECTION_NAME => Some("the name of a section of relocations cannot be read"),
+        TOO_LONG => Some("the text would be too long"),
         _ => None,
     }
 }
@@ -125,6 +127,8 @@ pub enum Error {
         /// The string offset of the name.
         name_offset: u64,
     },
+    /// The text of a C header would be far longer than the table.
+    TooLong,
 }
 
 impl Error {
@@ -160,6 +164,7 @@ impl Error {
             },
             SHARED_PLACE => Error::SharedPlace { index: error.offset },
             BAD_SECTION_NAME => Error::BadSectionName { name_offset: error.offset },
+            TOO_LONG => Error::TooLong,
             other => unreachable!("status {other} of a call of vbtf"),
         }
     }
@@ -190,6 +195,7 @@ impl Error {
             }
             Error::SharedPlace { index } => (SHARED_PLACE, 0, *index, 0, 0, ""),
             Error::BadSectionName { name_offset } => (BAD_SECTION_NAME, 0, *name_offset, 0, 0, ""),
+            Error::TooLong => (TOO_LONG, 0, 0, 0, 0, ""),
         };
         let mut error =
             vbtf_error { number, id, offset, len, section_len, name_len: 0, name: [0; 255] };

@@ -259,6 +259,15 @@ impl Table {
         Ok(String::from_utf8(bytes).expect("the library's texts are UTF-8"))
     }
 
+    /// All types as a C header, as `bpftool btf dump .. format c` writes it.
+    pub fn header(&self) -> Result<String, Error> {
+        // SAFETY: as above.
+        let bytes = written(1 << 16, |out, room, needed, error| unsafe {
+            vbtf_lent_header(&mut self.loan(), out, room, needed, error)
+        })?;
+        Ok(String::from_utf8(bytes).expect("the library's texts are UTF-8"))
+    }
+
     /// The least id of a type of this kind and name.
     pub fn id_by_type_name_kind(&self, name: &str, kind: Kind) -> Result<u32, Error> {
         let kind = kind as u32;
