@@ -721,7 +721,7 @@ VBTF_INLINE uint32_t vbtf_text_at(const struct vbtf_table *table, uint32_t offse
 
 /*
  * All types of the table as a C header, as `bpftool btf dump .. format c` writes it, without a zero byte after it.
- * VBTF_UNKNOWN_TYPE, VBTF_UNEXPECTED_TYPE, VBTF_DEPTH_REACHED: no C declaration can have the type error.id.
+ * VBTF_UNKNOWN_TYPE, VBTF_UNEXPECTED_TYPE, VBTF_TOO_DEEP: no C declaration can have the type error.id.
  * VBTF_TOO_LONG: the text would be far longer than the table. VBTF_NO_ROOM if the buffer is shorter than the text: then
  * only `needed` is written, the length of the text.
  */
