@@ -36,6 +36,23 @@ pub struct vbtf_type {
     pub size_or_type: u32,
 }
 
+/// What a blob has: its byte order, its header's values, where its sections are, and the number of its types.
+#[repr(C)]
+#[derive(Debug, Clone, Copy, Default)]
+pub struct vbtf_view_parts {
+    pub types_at: u64,
+    pub types_len: u64,
+    pub strings_at: u64,
+    pub strings_len: u64,
+    /// The end of the string offsets at which a name can be read.
+    pub names_len: u64,
+    pub count: u64,
+    pub order: u32,
+    pub magic: u16,
+    pub version: u8,
+    pub flags: u8,
+}
+
 /// A kernel that a table is rewritten for. `bindings/c/vbtf.h` has the bits of `features`.
 #[repr(C)]
 #[derive(Debug, Clone, Copy, Default)]
@@ -328,6 +345,94 @@ extern "C" {
         table: *mut vbtf_table,
         id: u32,
         size: *mut u64,
+        error: *mut vbtf_error,
+    ) -> u32;
+    pub fn vbtf_raw_view_index(
+        data: *const u8,
+        len: usize,
+        order: u32,
+        places: *mut u32,
+        room: usize,
+        parts: *mut vbtf_view_parts,
+        error: *mut vbtf_error,
+    ) -> u32;
+    pub fn vbtf_raw_view_types(
+        types: *const u8,
+        types_len: usize,
+        places: *const u32,
+        places_len: usize,
+        order: u32,
+        first: u32,
+        out: *mut vbtf_type,
+        room: usize,
+        count: *mut u64,
+    ) -> u32;
+    pub fn vbtf_raw_view_sizes(
+        types: *const u8,
+        types_len: usize,
+        places: *const u32,
+        places_len: usize,
+        order: u32,
+        first: u32,
+        out: *mut u64,
+        room: usize,
+        count: *mut u64,
+    ) -> u32;
+    pub fn vbtf_raw_view_resolved(
+        types: *const u8,
+        types_len: usize,
+        places: *const u32,
+        places_len: usize,
+        order: u32,
+        first: u32,
+        out: *mut u32,
+        room: usize,
+        count: *mut u64,
+    ) -> u32;
+    pub fn vbtf_raw_view_size(
+        types: *const u8,
+        types_len: usize,
+        places: *const u32,
+        places_len: usize,
+        order: u32,
+        id: u32,
+        size: *mut u64,
+        error: *mut vbtf_error,
+    ) -> u32;
+    pub fn vbtf_raw_view_resolve(
+        types: *const u8,
+        types_len: usize,
+        places: *const u32,
+        places_len: usize,
+        order: u32,
+        id: u32,
+        to: *mut u32,
+        error: *mut vbtf_error,
+    ) -> u32;
+    pub fn vbtf_raw_view_members(
+        types: *const u8,
+        types_len: usize,
+        places: *const u32,
+        places_len: usize,
+        order: u32,
+        id: u32,
+        out: *mut vbtf_member,
+        room: usize,
+        count: *mut u64,
+        error: *mut vbtf_error,
+    ) -> u32;
+    pub fn vbtf_raw_view_find(
+        types: *const u8,
+        types_len: usize,
+        strings: *const u8,
+        strings_len: usize,
+        places: *const u32,
+        places_len: usize,
+        order: u32,
+        name: *const u8,
+        len: usize,
+        kind: u32,
+        id: *mut u32,
         error: *mut vbtf_error,
     ) -> u32;
     pub fn vbtf_lent_header(

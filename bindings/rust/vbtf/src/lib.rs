@@ -32,6 +32,7 @@ mod open;
 mod table;
 mod target;
 mod types;
+mod view;
 
 pub use error::Error;
 pub use ext::{Ext, FuncInfo, LineInfo, Part, Relocation};
@@ -42,6 +43,7 @@ pub use open::OpenError;
 pub use table::{fields_are_compatible, types_are_compatible, Table};
 pub use target::{Relocated, Target};
 pub use types::{Array, Entry, Int, Items, Linkage, Member, Param, Type, Types, Variant};
+pub use view::{Head, View};
 
 /// The example of the README, for `cargo test`.
 #[cfg(doctest)]

@@ -13,7 +13,7 @@ use vbtf_sys::*;
 const ANY_KIND: u32 = u32::MAX;
 
 /// The values that a call writes to a buffer.
-fn filled<T: Clone + Default>(
+pub(crate) fn filled<T: Clone + Default>(
     places: usize,
     call: impl FnOnce(*mut T, usize, *mut u64) -> u32,
 ) -> Vec<T> {

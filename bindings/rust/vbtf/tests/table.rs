@@ -160,3 +160,13 @@ fn strings_are_added() {
     assert_eq!(table.string_at(1).unwrap(), "int");
     assert!(table.is_empty());
 }
+
+#[test]
+fn the_types_are_written_as_a_c_header() {
+    let folder = concat!(env!("CARGO_MANIFEST_DIR"), "/../../../crates/corpus_tests/data");
+    for object in ["clang14.bpfel.prog.o", "clang14.bpfeb.prog.o"] {
+        let table = Table::open(format!("{folder}/{object}")).unwrap();
+        let text = std::fs::read_to_string(format!("{folder}/{object}.header")).unwrap();
+        assert_eq!(table.header().unwrap(), text);
+    }
+}
