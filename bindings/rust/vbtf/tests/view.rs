@@ -20,10 +20,8 @@ fn each_type_is_that_of_the_table() {
     assert_eq!((view.type_count(), heads.len()), (table.len(), table.len() as usize));
     for (id, head) in (0..).zip(&heads) {
         let one = table.type_by_id(id).unwrap();
-        assert_eq!(
-            (head.kind, view.text_at(head.name_offset).unwrap()),
-            (one.kind(), one.name().unwrap())
-        );
+        assert_eq!(head.kind, one.kind());
+        assert_eq!(view.text_at(head.name_offset).unwrap(), one.name().unwrap());
         assert_eq!(view.head(id), Some(*head));
         assert_eq!(view.type_size(id), table.type_size(id));
         assert_eq!(view.resolve_type(id), table.resolve_type(id));
