@@ -1,3 +1,4 @@
+pub mod Appended
 pub mod Front
 pub mod Places
 pub mod Heads

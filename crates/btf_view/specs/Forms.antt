@@ -1,6 +1,7 @@
 -- Types and members in the form that C reads.
 -- Source: the kernel's BTF documentation, "Type Encoding", `struct btf_type`, "BTF_KIND_STRUCT" and "BTF_KIND_UNION".
-use Rattle.std.specs.Prelude.{◌≡◌, ◌⊎◌, ◌≤◌, ℕ, List, [], ◌∷◌, ◌++◌, take, drop, length, Option, Some, None, Result, Ok, Err, slice_get}
+use Rattle.std.specs.Prelude.{◌≡◌, ◌⊎◌, ◌≤◌, ◌<◌, ◌+◌, ℕ, min, map, unwrap_or, option_and_then, List, [], ◌∷◌, ◌++◌, take, drop, length, Option, Some, None, Result, Ok, Err, slice_get}
+use Rattle.std.specs.List.{flat_map}
 use Rattle.btf_model.specs.Record as kinds
 use Rattle.btf_model.specs.Record.{Kind, Record, kind_of, kind_number, member_bit_offset, member_bit_field_size}
 use Rattle.btf_model.specs.Refusal.{Refusal, UnknownBtfType, UnexpectedBtfType}
@@ -53,3 +54,23 @@ abbrev pub ListsItems : {X : Type 0} → List X → List X → Result ℕ BtfErr
 ListsItems {X} old new (Ok count) P = (items : List X) × Begins (take (length old) items) old new count × P (Ok items)
 ListsItems old new (Err error) P =
     (new ≡ old) × (refusal : Refusal) × (refusal_of error ≡ Some refusal) × P (Err refusal)
+
+-- the members of a record; none if records of its kind have none
+abbrev pub members_of : Record → List Member
+members_of r = unwrap_or (option_and_then (λ k. members k r) (kind_of r.info)) []
+
+-- The outcomes of writing items to a buffer from an index on: all of them are written, and the rest of the buffer is
+-- unchanged; or they do not fit.
+abbrev pub HasAppended : {X : Type 0} → List X → List X → List X → ℕ → Option ℕ → Type 0
+HasAppended items old new at (Some count) =
+    (count ≡ length items) × (at + count ≤ length old) × (new ≡ take at old ++ (items ++ drop (at + count) old))
+HasAppended items old new at None = (length old < at + length items) × (new ≡ old)
+
+-- The members of these records are written to a buffer, record after record, and the numbers of their members to another
+-- one, for as many records as have a place and whose members fit: for `done` records, with `written` members.
+pub record ListsMembers (rs : List Record) (old_counts new_counts : List ℕ) (old new : List Member) (done written : ℕ)
+    : Type 0 where
+  pub counts : Begins (map (λ r. length (members_of r)) (take done rs)) old_counts new_counts done
+  pub members : Begins (flat_map members_of (take done rs)) old new written
+  pub stops : (done ≡ min (length old_counts) (length rs))
+      ⊎ ((r : Record) × (slice_get rs done ≡ Some r) × (length old < written + length (members_of r)))

@@ -1,14 +1,14 @@
 //! Writing many types or members to a buffer.
 
-ghost use Rattle.std.specs.Prelude.{◌≡◌, ◌*◌, ◌<◌, ◌≤◌, ◌^◌, List, map, length, take, drop};
+ghost use Rattle.std.specs.Prelude.{◌≡◌, ◌*◌, ◌+◌, ◌<◌, ◌≤◌, ◌^◌, IfSome, List, map, length, take, drop};
 ghost use Rattle.btf_model.specs.Record.{Record, vlen};
 ghost use Rattle.btf_model.specs.Word.{words_at};
-ghost use Rattle.btf_view.specs.Forms.{Begins, members_in, words_in};
+ghost use Rattle.btf_view.specs.Forms.{Begins, HasAppended, ListsMembers, members_in, members_of, words_in};
 ghost use Rattle.btf_view.specs.Places.{AreIndexed, ArePlaces, IsPlace};
 
 use crate::forms::{Member, TypeWords, member_of, type_words};
-use crate::record::{head_at, whole_head_at, word_at};
-use btf_plain::Endianness;
+use crate::record::{head_at, tail_at, whole_head_at, word_at};
+use btf_plain::{BtfKind, Endianness};
 
 /// Writes the first words of the type at a place. Most types take the short way.
 #[inline(always)]
@@ -81,9 +81,10 @@ pub(crate) fn fill_members(
     endianness: Endianness,
     out: &mut [Member],
 ) -> usize
-    ensures { 12 * vlen info ≤ length tail.now
+    ensures items { 12 * vlen info ≤ length tail.now
         → Begins (take (length out.old) (members_in info
         (words_at endianness (3 * vlen info) tail.now))) out.old out.new result }
+    ensures few { (result ≤ length out.old) × (result < 2 ^ 16) }
 {
     let vlen = vlen_of(info);
     if tail.len() < 12 * vlen {
@@ -100,4 +101,99 @@ pub(crate) fn fill_members(
         );
     }
     count
+}
+
+/// Writes the members of a record with this info word, as `fill_members` does, from an index of a buffer on, and returns
+/// their number; None if they do not all fit.
+#[inline(always)]
+fn append_items(
+    info: u32,
+    tail: &[u8],
+    endianness: Endianness,
+    out: &mut [Member],
+    at: usize,
+) -> Option<usize>
+    requires { at ≤ length out.old }
+    ensures items { 12 * vlen info ≤ length tail.now
+        → HasAppended (members_in info (words_at endianness (3 * vlen info) tail.now))
+        out.old out.new at result }
+    ensures few { IfSome result (λ count. (at + count ≤ length out.old) × (count < 2 ^ 16)) }
+{
+    if out.len() - at < vlen_of(info) {
+        return None;
+    }
+    Some(fill_members(info, tail, endianness, &mut out[at..]))
+}
+
+/// Writes the members of the record at a place from an index of a buffer on, and returns their number; None if they do
+/// not all fit. A record that is no STRUCT or UNION has none.
+#[inline(always)]
+fn append_members(
+    types: &[u8],
+    place: u32,
+    endianness: Endianness,
+    out: &mut [Member],
+    at: usize,
+) -> Option<usize>
+    requires { at ≤ length out.old }
+    ensures items { (r : Record) → IsPlace endianness types.now place r
+        → HasAppended (members_of r) out.old out.new at result }
+    ensures few { IfSome result (λ count. (at + count ≤ length out.old) × (count < 2 ^ 16)) }
+{
+    let head = head_at(types, place, endianness);
+    let Ok(kind) = BtfKind::try_from(head.kind()) else {
+        return Some(0);
+    };
+    match kind {
+        BtfKind::Struct | BtfKind::Union => {
+            let tail = tail_at(types, place, endianness);
+            append_items(head.info, tail, endianness, out, at)
+        }
+        _ => Some(0),
+    }
+}
+
+/// Writes the members of the records at these places, record after record, and the number of the members of each record,
+/// as long as a record has a place in `counts` and its members fit. Returns the numbers of records and of members.
+#[inline(always)]
+fn append_all(
+    types: &[u8],
+    places: &[u32],
+    endianness: Endianness,
+    counts: &mut [u32],
+    out: &mut [Member],
+) -> (usize, usize)
+    ensures { (rs : List Record) → ArePlaces endianness types.now places.now rs
+        → ListsMembers rs counts.old counts.new out.old out.new result.0 result.1 }
+{
+    let records = counts.len().min(places.len());
+    let mut written = 0;
+    for index in 0..records {
+        let Some(count) = append_members(types, places[index], endianness, out, written) else {
+            return (index, written);
+        };
+        counts[index] = count as u32;
+        written += count;
+    }
+    (records, written)
+}
+
+/// Writes the members of the types from an id on, as `append_all` does.
+#[inline(always)]
+pub(crate) fn fill_all_members(
+    types: &[u8],
+    places: &[u32],
+    endianness: Endianness,
+    first: u32,
+    counts: &mut [u32],
+    out: &mut [Member],
+) -> (usize, usize)
+    ensures { (records : List Record) → AreIndexed endianness types.now places.now records
+        → ListsMembers (drop first records) counts.old counts.new out.old out.new
+        result.0 result.1 }
+{
+    match places.get(first as usize..) {
+        Some(rest) => append_all(types, rest, endianness, counts, out),
+        None => (0, 0),
+    }
 }

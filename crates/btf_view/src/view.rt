@@ -8,12 +8,12 @@ ghost use Rattle.btf_model.specs.Text.{bytes_at};
 ghost use Rattle.btf_plain.specs.Error.{Meets};
 ghost use Rattle.btf_plain.specs.Kind as kinds;
 ghost use Rattle.btf_view.specs.Finding.{LooksUp};
-ghost use Rattle.btf_view.specs.Forms.{Begins, ListsItems, MembersOf, words_in};
+ghost use Rattle.btf_view.specs.Forms.{Begins, ListsItems, ListsMembers, MembersOf, words_in};
 ghost use Rattle.btf_view.specs.Many.{FillsResolved, FillsSizes};
 ghost use Rattle.btf_view.specs.Record.{HasHead};
 ghost use Rattle.btf_view.specs.View.{Shows};
 
-use crate::filling::{fill_members, fill_types};
+use crate::filling::{fill_all_members, fill_members, fill_types};
 use crate::finding::{Lookup, find_in};
 use crate::forms::{Member, TypeWords};
 use crate::record::{head_at, tail_at};
@@ -83,6 +83,25 @@ impl<'a> View<'a> {
                 Ok(fill_members(head.info, tail, self.endianness, out))
             }
             _ => Err(BtfError::UnexpectedBtfType { type_id }),
+        }
+    }
+
+    /// Writes the members of the types from an id on, type after type, and the number of the members of each type to
+    /// `counts`, 0 for a type that is no STRUCT or UNION. It stops before the first type that has no place in `counts` or
+    /// whose members do not all fit. Returns the numbers of types and of members.
+    pub fn members_from(&self, first: u32, counts: &mut [u32], out: &mut [Member]) -> (usize, usize)
+        ensures { (records : List Record) → Shows self.now records
+            → ListsMembers (drop first records) counts.old counts.new out.old out.new
+            result.0 result.1 }
+    {
+        let (types, places) = (self.types, self.places);
+        match self.endianness {
+            Endianness::Little => {
+                fill_all_members(types, places, Endianness::Little, first, counts, out)
+            }
+            Endianness::Big => {
+                fill_all_members(types, places, Endianness::Big, first, counts, out)
+            }
         }
     }
 

@@ -21,8 +21,8 @@ loop-index-preserved c long =
     one_written (members_in info (words_at c.args.endianness (3 * n) tail)) c.args.out.now c.loop-index.out i c.member_of.result (c.loop-index.invariant long) room
     (member_there c.args.endianness info n i tail low ∙ ap (λ (m : Member). Some m) words)
 
-pub returns : goal.returns
-returns c long =
+pub returns-clause-items : goal.returns-clause-items
+returns-clause-items c long =
     let k = c.min-count.result in
     let n = vlen c.args.info in
     let tail = c.args.tail.now in
@@ -31,5 +31,5 @@ returns c long =
     all_written items c.args.out.now c.loop-index.out k (subst (Written items c.args.out.now c.loop-index.out) end (c.loop-index.invariant long))
     (c.min-count.ensures ∙ ap (min (length c.args.out.now)) (c.vlen_of-vlen.ensures.value ∙ sym (count_members c.args.endianness c.args.info n tail)))
 
-pub returns-then-tail-vlen : goal.returns-then-tail-vlen
-returns-then-tail-vlen c long = absurd (omega (arith, long, c.vlen_of-vlen.ensures.value, c.if-tail-vlen.true))
+pub returns-then-tail-vlen-clause-items : goal.returns-then-tail-vlen-clause-items
+returns-then-tail-vlen-clause-items c long = absurd (omega (arith, long, c.vlen_of-vlen.ensures.value, c.if-tail-vlen.true))

@@ -35,7 +35,7 @@ returns-in-Struct c records h =
     let has : kind_of found.0.info ≡ Some (kind c.in-Ok.kind) = ap kind_of (sym head.info) ∙ kind_in c.head_at-head.result.info c.kind.result c.in-Ok.kind c.in-Ok.ensures c.kind.ensures in
     let either : (kind_of found.0.info ≡ Some model.Struct) ⊎ (kind_of found.0.info ≡ Some model.Union) =
     elim c.in-Struct.is [ inl s ↦ inl (has ∙ ap (λ (k : BtfKind). Some (kind k)) s) | inr u ↦ inr (has ∙ ap (λ (k : BtfKind). Some (kind k)) u) ] in
-    struct_listed view.endianness records c.tail_at-tail.result.now c.args.type_id c.head_at-head.result.info c.fill_members.result found.0 c.args.out.now c.fill_members.new.out found.1 either head.info (c.tail_at-tail.ensures found.0 found.2) c.fill_members.ensures
+    struct_listed view.endianness records c.tail_at-tail.result.now c.args.type_id c.head_at-head.result.info c.fill_members.result found.0 c.args.out.now c.fill_members.new.out found.1 either head.info (c.tail_at-tail.ensures found.0 found.2) c.fill_members.ensures.items
 
 pub returns-in_default-kind : goal.returns-in_default-kind
 returns-in_default-kind c records h =

@@ -1,0 +1,17 @@
+use Rattle.std.proofs.Common.{◌*◌, length, refl, arith}
+use Rattle.btf_model.specs.Record.{vlen}
+use Rattle.btf_model.specs.Word.{words_at}
+use Rattle.btf_view.specs.Forms.{members_in}
+use Rattle.btf_view.proofs.Appended.{appended}
+use Rattle.btf_view.proofs.Fills.{count_members}
+use Rattle.btf_view.proofs.filling.append_items.Goals as goal
+
+pub returns-then-out-at-clause-items : goal.returns-then-out-at-clause-items
+returns-then-out-at-clause-items c long =
+    (omega (arith, c.requires, c.if-out-at.true, c.vlen_of.ensures.value, count_members c.args.endianness c.args.info (vlen c.args.info) c.args.tail.now), refl)
+
+pub returns-clause-items : goal.returns-clause-items
+returns-clause-items c long =
+    let items = members_in c.args.info (words_at c.args.endianness (3 * vlen c.args.info) c.args.tail.now) in
+    appended items c.args.out.now c.fill_members.new.out c.args.at c.fill_members.result c.requires
+    (omega (arith, c.if-out-at.false, c.vlen_of.ensures.value, count_members c.args.endianness c.args.info (vlen c.args.info) c.args.tail.now)) (c.fill_members.ensures.items long)
