@@ -1,13 +1,16 @@
 -- The outcomes of the calls that read a blob by the places of its records.
-use Rattle.std.specs.Prelude.{◌≡◌, ◌⊎◌, ◌+◌, ◌*◌, ◌≤◌, ℕ, List, length, take}
+use Rattle.std.specs.Prelude.{◌≡◌, ◌⊎◌, ◌+◌, ◌*◌, ◌≤◌, ℕ, List, length, take, drop}
 use Rattle.btf_model.specs.declared.endianness.Endianness.{Endianness}
+use Rattle.btf_model.specs.Record.{Record}
 use Rattle.btf_model.specs.Refusal.{Refusal}
 use Rattle.btf_model.specs.Table.{Table}
 use Rattle.btf_model.specs.Blob.{IsRefusal, IsTable, header_of, slice}
 use Rattle.btf_table.specs.Readable.{IsReadableEnd}
+use Rattle.btf_view.specs.Forms.{ListsMembers}
 use Rattle.btf_view.specs.Places.{AreIndexed}
+use Rattle.btf_view.specs.declared.forms.Member.{Member}
 use Rattle.btf_view.specs.declared.indexing.Sections.{Sections}
-use Rattle.vbtf.specs.Orders.{order_number}
+use Rattle.vbtf.specs.Orders.{order_named, order_number}
 use Rattle.vbtf.specs.Status.{ReportsRefusal}
 use Rattle.vbtf.specs.declared.fault.Fault.{Fault}
 use Rattle.vbtf.specs.declared.view.ViewParts.{ViewParts}
@@ -48,3 +51,11 @@ EndsIndexing status order bytes places parts fault =
     ((status ≡ 0) × IsView order bytes places parts)
     ⊎ ((refusal : Refusal) × ReportsRefusal status fault refusal × IsRefusal order bytes refusal)
     ⊎ ((status ≡ 100) × (12 * length places ≤ (header_of order bytes).type_len))
+
+-- For one of the two orders, the call ends with status 0, and the buffers have the members of the types from an id on and
+-- their numbers.
+abbrev pub EndsMembersFrom : ℕ → ℕ → List ℕ → List ℕ → ℕ → List ℕ → List ℕ → List Member → List Member → ℕ → ℕ
+    → Type 0
+EndsMembersFrom status order types places first old_counts counts old out done written =
+    order ≤ 1 → (status ≡ 0) × ((records : List Record) → AreIndexed (order_named order) types places records
+    → ListsMembers (drop first records) old_counts counts old out done written)

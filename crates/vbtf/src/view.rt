@@ -17,7 +17,7 @@ ghost use Rattle.btf_view.specs.Places.{AreIndexed};
 ghost use Rattle.vbtf.specs.Lists.{EndsListing};
 ghost use Rattle.vbtf.specs.Orders.{order_chosen, order_named};
 ghost use Rattle.vbtf.specs.Status.{EndsCall, ReportsRefusal};
-ghost use Rattle.vbtf.specs.View.{EndsIndexing, IsViewOf};
+ghost use Rattle.vbtf.specs.View.{EndsIndexing, EndsMembersFrom, IsViewOf};
 
 use crate::fault::{Fault, INVALID_ARGUMENT, NAME_ROOM, NO_ROOM, report, write};
 use crate::orders::{choose_order, number_of, order_of};
@@ -303,6 +303,42 @@ pub extern "C" fn vbtf_raw_view_members(
         }
         Err(error) => report(error, fault),
     }
+}
+
+/// Writes the members of the types from an id on to `out`, type after type, and the number of the members of each type to
+/// `counts`, 0 for a type that is no STRUCT or UNION. It stops before the first type that has no place in `counts` or whose
+/// members do not all fit. The number of types goes to `done`, and the number of members to `written`.
+///
+/// Status 102 if the order is not 0 or 1; the buffers are then unchanged.
+#[unsafe(no_mangle)]
+pub extern "C" fn vbtf_raw_view_members_from(
+    types: &[u8],
+    places: &[u32],
+    order: u32,
+    first: u32,
+    counts: &mut [u32],
+    out: &mut [Member],
+    done: &mut u64,
+    written: &mut u64,
+) -> u32
+    ensures listed { EndsMembersFrom result order types.now places.now first counts.old counts.new
+        out.old out.new done.new written.new }
+    ensures order { 1 < order → (result ≡ INVALID_ARGUMENT) × (counts.new ≡ counts.old)
+        × (out.new ≡ out.old) }
+{
+    let Some(endianness) = order_of(order) else {
+        return INVALID_ARGUMENT;
+    };
+    let view = View {
+        endianness,
+        types,
+        strings: &[],
+        places,
+    };
+    let (records, members) = view.members_from(first, counts, out);
+    *done = records as u64;
+    *written = members as u64;
+    0
 }
 
 /// The least id of a type with this kind and name. The kind is a number from 0 to 19, and the name has no zero byte at
