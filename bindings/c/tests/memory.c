@@ -11,7 +11,7 @@ static uint8_t blob[TABLE_LEN], ext_blob[EXT_LEN];
 #define WIDTH 40
 
 /* Tables that no call changes: the one of open_wide, one that has a .BTF.ext open, and one that has an index open. */
-static struct vbtf_table wide, with_ext, with_index;
+static struct vbtf_table wide, first_four, with_ext, with_index;
 
 /* The string offset of the access string "0:1" in the last one. */
 static uint32_t access_offset;
@@ -119,11 +119,13 @@ static uint32_t text(struct vbtf_table *table)
 	return vbtf_text_at(table, 26, out, sizeof out, &needed, &error);
 }
 
+/* The C header of the first four types, because the table has a pointer to itself, which no C header can have. */
 static uint32_t header(struct vbtf_table *table)
 {
 	uint64_t needed;
 	char out[4096];
-	return vbtf_header(table, out, sizeof out, &needed, &error);
+	(void)table;
+	return vbtf_header(&first_four, out, sizeof out, &needed, &error);
 }
 
 static uint32_t missing(struct vbtf_table *table)
@@ -324,12 +326,21 @@ static void open_wide(void)
 	check(vbtf_parse(&wide, bytes, sizeof bytes, VBTF_LITTLE, &error) == VBTF_OK);
 }
 
+/* Opens a table of the first four types. */
+static void open_first_four(void)
+{
+	uint8_t bytes[24 + 4 * 19 + sizeof STRINGS];
+	table_bytes_of(bytes, words, 4 * 19, STRINGS, sizeof STRINGS);
+	check(vbtf_parse(&first_four, bytes, sizeof bytes, VBTF_LITTLE, &error) == VBTF_OK);
+}
+
 int main(void)
 {
 	table_bytes(blob, VBTF_LITTLE);
 	ext_bytes(ext_blob, VBTF_LITTLE);
 	long before = live;
 	open_wide();
+	open_first_four();
 	with_ext = opened(VBTF_LITTLE);
 	check(vbtf_open_ext(&with_ext, ext_blob, sizeof ext_blob, VBTF_LITTLE, 7, &error) == VBTF_OK);
 	with_index = opened(VBTF_LITTLE);
@@ -344,6 +355,7 @@ int main(void)
 	}
 	vbtf_close(&with_index);
 	vbtf_close(&with_ext);
+	vbtf_close(&first_four);
 	vbtf_close(&wide);
 	check(live == before);
 	return counted("memory");

@@ -94,7 +94,7 @@ impl Table {
     /// ```
     pub fn type_sizes(&self, ids: Range<u32>) -> Vec<Option<u64>> {
         // SAFETY: as in `words_from`.
-        let sizes = filled(ids.len(), |out, room, count| unsafe {
+        let sizes = filled(ids.len().min(self.len() as usize), |out, room, count| unsafe {
             vbtf_lent_sizes(&mut self.loan(), ids.start, out, room, count)
         });
         sizes.into_iter().map(|size| (size != u64::MAX).then_some(size)).collect()
@@ -109,7 +109,7 @@ impl Table {
     /// ```
     pub fn resolved_types(&self, ids: Range<u32>) -> Vec<Option<u32>> {
         // SAFETY: as in `words_from`.
-        let ids = filled(ids.len(), |out, room, count| unsafe {
+        let ids = filled(ids.len().min(self.len() as usize), |out, room, count| unsafe {
             vbtf_lent_resolved(&mut self.loan(), ids.start, out, room, count)
         });
         ids.into_iter().map(|id| (id != u32::MAX).then_some(id)).collect()

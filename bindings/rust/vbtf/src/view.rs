@@ -95,11 +95,16 @@ impl<'a> View<'a> {
         self.places.len() as u32
     }
 
+    /// The number of these ids that the table can have.
+    fn places_of(&self, ids: &Range<u32>) -> usize {
+        ids.len().min(self.places.len())
+    }
+
     /// The first words of the types of these ids, as far as the table has them.
     pub fn heads(&self, ids: Range<u32>) -> Vec<Head> {
         let (types, places) = (self.types, &self.places);
         // SAFETY: the slices and the buffer live as long as the call.
-        let words = filled(ids.len(), |out, room, count| unsafe {
+        let words = filled(self.places_of(&ids), |out, room, count| unsafe {
             let (at, len) = (places.as_ptr(), places.len());
             vbtf_raw_view_types(
                 types.as_ptr(),
@@ -202,7 +207,7 @@ impl<'a> View<'a> {
     pub fn type_sizes(&self, ids: Range<u32>) -> Vec<Option<u64>> {
         let (types, places) = (self.types, &self.places);
         // SAFETY: the slices and the buffer live as long as the call.
-        let sizes = filled(ids.len(), |out, room, count| unsafe {
+        let sizes = filled(self.places_of(&ids), |out, room, count| unsafe {
             let (at, len) = (places.as_ptr(), places.len());
             vbtf_raw_view_sizes(
                 types.as_ptr(),
@@ -223,7 +228,7 @@ impl<'a> View<'a> {
     pub fn resolved_types(&self, ids: Range<u32>) -> Vec<Option<u32>> {
         let (types, places) = (self.types, &self.places);
         // SAFETY: the slices and the buffer live as long as the call.
-        let ids = filled(ids.len(), |out, room, count| unsafe {
+        let ids = filled(self.places_of(&ids), |out, room, count| unsafe {
             let (at, len) = (places.as_ptr(), places.len());
             vbtf_raw_view_resolved(
                 types.as_ptr(),
