@@ -421,6 +421,9 @@ uint32_t vbtf_raw_view_resolve(const uint8_t *types, size_t types_len, const uin
 uint32_t vbtf_raw_view_members(const uint8_t *types, size_t types_len, const uint32_t *places, size_t places_len,
                                uint32_t order, uint32_t id, struct vbtf_member *out, size_t room, uint64_t *count,
                                struct vbtf_error *error);
+uint32_t vbtf_raw_view_members_from(const uint8_t *types, size_t types_len, const uint32_t *places, size_t places_len,
+                                    uint32_t order, uint32_t first, uint32_t *counts, size_t ids,
+                                    struct vbtf_member *out, size_t room, uint64_t *done, uint64_t *written);
 uint32_t vbtf_raw_view_find(const uint8_t *types, size_t types_len, const uint8_t *strings, size_t strings_len,
                             const uint32_t *places, size_t places_len, uint32_t order, const uint8_t *name, size_t len,
                             uint32_t kind, uint32_t *id, struct vbtf_error *error);
@@ -1379,6 +1382,21 @@ VBTF_INLINE uint32_t vbtf_view_members(const struct vbtf_view *view, uint32_t id
 	return vbtf_raw_view_members(vbtf_view_types_at(view), view->parts.types_len, vbtf_view_places(view),
 	                             view->parts.count, view->parts.order, id, out ? out : &none, out ? room : 0, count,
 	                             vbtf_error_or(error, &unread));
+}
+
+/*
+ * The members of all types from the id `first` on, type after type, in one call, and the number of the members of each
+ * type in `counts`: 0 for a type that is no STRUCT or UNION. The call stops before the first type for which `counts` has
+ * no place or whose members do not all fit. `done` gets the number of types, and `written` that of members.
+ */
+VBTF_INLINE uint32_t vbtf_view_members_from(const struct vbtf_view *view, uint32_t first, uint32_t *counts, size_t ids,
+                                            struct vbtf_member *out, size_t room, uint64_t *done, uint64_t *written)
+{
+	struct vbtf_member none;
+	uint32_t no_count;
+	return vbtf_raw_view_members_from(vbtf_view_types_at(view), view->parts.types_len, vbtf_view_places(view),
+	                                  view->parts.count, view->parts.order, first, counts ? counts : &no_count,
+	                                  counts ? ids : 0, out ? out : &none, out ? room : 0, done, written);
 }
 
 /* The size of a type in bytes, as vbtf_size gives it. */

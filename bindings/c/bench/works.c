@@ -125,19 +125,14 @@ static uint64_t members_here(void)
 static uint64_t members_view(void)
 {
 	static struct vbtf_member members[1 << 16];
-	struct vbtf_type types[PLACES];
-	uint64_t sum = 0, places = 1, found;
+	uint32_t counts[PLACES];
+	uint64_t sum = 0, done = 1, written;
 
-	for (uint32_t first = 1; places; first += places) {
-		vbtf_view_types(&view, first, types, PLACES, &places);
-		for (uint64_t at = 0; at < places; at++) {
-			if (!has_members(types[at].kind) ||
-			    vbtf_view_members(&view, first + at, members, 1 << 16, &found, NULL))
-				continue;
-			for (uint64_t index = 0; index < found; index++)
-				sum += members[index].name_offset + members[index].type + members[index].bit_offset +
-				       members[index].bit_field_size;
-		}
+	for (uint32_t first = 1; done; first += done) {
+		vbtf_view_members_from(&view, first, counts, PLACES, members, 1 << 16, &done, &written);
+		for (uint64_t index = 0; index < written; index++)
+			sum += members[index].name_offset + members[index].type + members[index].bit_offset +
+			       members[index].bit_field_size;
 	}
 	return sum;
 }

@@ -58,6 +58,30 @@ static bool has_members(const struct vbtf_table *table, const struct vbtf_view *
 	       memcmp(members, wanted, (room + 1) * sizeof *members) == 0;
 }
 
+/* The members of all types, in buffers with places for these numbers of types and members. */
+static bool has_all_members(const struct vbtf_table *table, const struct vbtf_view *view, size_t ids, size_t room)
+{
+	static struct vbtf_member members[1 << 16], wanted[1 << 16];
+	static uint32_t counts[1 << 12];
+	uint64_t done = 7, written = 7, number, types = vbtf_view_count(view);
+	bool same = true;
+	for (uint64_t first = 0; same && first < types; first += done ? done : 1) {
+		struct vbtf_member *next = members;
+		same = vbtf_view_members_from(view, (uint32_t)first, counts, ids, members, room, &done, &written) == VBTF_OK;
+		for (uint64_t i = 0; same && i < done; i++, next += number) {
+			number = 0;
+			vbtf_members(table, (uint32_t)(first + i), wanted, 1 << 16, &number, NULL);
+			same = counts[i] == number && memcmp(next, wanted, number * sizeof *next) == 0;
+		}
+		same = same && written == (uint64_t)(next - members) && first + done <= types;
+		/* The next type has no place, or it has more members than places are left. */
+		number = 0;
+		vbtf_members(table, (uint32_t)(first + done), wanted, 1 << 16, &number, NULL);
+		same = same && (done == ids || first + done == types || written + number > room);
+	}
+	return same;
+}
+
 /* The calls that take one id. */
 static bool has_id(const struct vbtf_table *table, const struct vbtf_view *view, uint32_t id)
 {
@@ -114,6 +138,9 @@ static void equal(const struct vbtf_table *table, const struct vbtf_view *view)
 	check(vbtf_view_find(view, "\xff", 1, 1, &order, &error) == VBTF_BAD_ARGUMENT);
 	check(vbtf_view_find(view, "\xef\xbf\xbd", 3, 1, &order, &error) == VBTF_BAD_ARGUMENT);
 	check(vbtf_view_find(view, "a\0b", 3, 1, &order, &error) == VBTF_BAD_ARGUMENT);
+	check(has_all_members(table, view, 1 << 12, 1 << 16));
+	check(has_all_members(table, view, 7, 1 << 16));
+	check(has_all_members(table, view, 1 << 12, 50));
 }
 
 /* A view opens for the bytes for which a table opens, and reports the same error for others. */
