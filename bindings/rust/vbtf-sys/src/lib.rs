@@ -421,6 +421,20 @@ extern "C" {
         count: *mut u64,
         error: *mut vbtf_error,
     ) -> u32;
+    pub fn vbtf_raw_view_members_from(
+        types: *const u8,
+        types_len: usize,
+        places: *const u32,
+        places_len: usize,
+        order: u32,
+        first: u32,
+        counts: *mut u32,
+        ids: usize,
+        out: *mut vbtf_member,
+        room: usize,
+        done: *mut u64,
+        written: *mut u64,
+    ) -> u32;
     pub fn vbtf_raw_view_find(
         types: *const u8,
         types_len: usize,
