@@ -1,5 +1,5 @@
 -- A kind of the code has one kind of the definitions.
-use Rattle.std.proofs.Common.{◌≡◌, ◌≢◌, ◌∙◌, ◌+◌, ℕ, zero, suc, List, [], ◌∷◌, Some, None, refl, sym, ap, arith}
+use Rattle.std.proofs.Common.{◌≡◌, ◌≢◌, ◌∙◌, ◌+◌, ℕ, zero, suc, List, [], ◌∷◌, Some, None, refl, sym, ap, arith, ◌⊎◌, inl, inr}
 use Rattle.std.specs.Prelude.{map, slice_get}
 use Rattle.std.proofs.lemmas.Option.{same_Some, slice_get_within, slice_get-map}
 use Rattle.std.specs.Option.{option_map}
@@ -156,28 +156,28 @@ kept_name model.DeclTag r named = refl
 kept_name model.TypeTag r named = refl
 kept_name model.Enum64 r named = refl
 
--- the kinds of which reading retains the whole head
-pub whole_head : (k : Kind) (head : Head) (tail : List ℕ) → k ≢ model.Unknown → k ≢ model.Array → k ≢ model.Fwd → HasHead head (kept k (headed head tail))
-whole_head model.Unknown head tail u a f = absurd (u refl)
-whole_head model.Array head tail u a f = absurd (a refl)
-whole_head model.Fwd head tail u a f = absurd (f refl)
-whole_head model.Int head tail u a f = record { name = refl; info = refl; third = refl }
-whole_head model.Ptr head tail u a f = record { name = refl; info = refl; third = refl }
-whole_head model.Struct head tail u a f = record { name = refl; info = refl; third = refl }
-whole_head model.Union head tail u a f = record { name = refl; info = refl; third = refl }
-whole_head model.Enum head tail u a f = record { name = refl; info = refl; third = refl }
-whole_head model.Typedef head tail u a f = record { name = refl; info = refl; third = refl }
-whole_head model.Volatile head tail u a f = record { name = refl; info = refl; third = refl }
-whole_head model.Const head tail u a f = record { name = refl; info = refl; third = refl }
-whole_head model.Restrict head tail u a f = record { name = refl; info = refl; third = refl }
-whole_head model.Func head tail u a f = record { name = refl; info = refl; third = refl }
-whole_head model.FuncProto head tail u a f = record { name = refl; info = refl; third = refl }
-whole_head model.Var head tail u a f = record { name = refl; info = refl; third = refl }
-whole_head model.DataSec head tail u a f = record { name = refl; info = refl; third = refl }
-whole_head model.Float head tail u a f = record { name = refl; info = refl; third = refl }
-whole_head model.DeclTag head tail u a f = record { name = refl; info = refl; third = refl }
-whole_head model.TypeTag head tail u a f = record { name = refl; info = refl; third = refl }
-whole_head model.Enum64 head tail u a f = record { name = refl; info = refl; third = refl }
+-- what reading retains of a head, by what it retains of the third word
+pub head_kept : (k : Kind) (head : Head) (tail : List ℕ) (third : ℕ) → k ≢ model.Unknown → ((k ≡ model.Array) ⊎ (k ≡ model.Fwd) → third ≡ 0) → (k ≢ model.Array → k ≢ model.Fwd → third ≡ head.third) → HasHead (record { name = head.name; info = head.info; third = third }) (kept k (headed head tail))
+head_kept model.Unknown head tail third u d s = absurd (u refl)
+head_kept model.Array head tail third u d s = record { name = refl; info = refl; third = d (inl refl) }
+head_kept model.Fwd head tail third u d s = record { name = refl; info = refl; third = d (inr refl) }
+head_kept model.Int head tail third u d s = record { name = refl; info = refl; third = s (λ e. cc) (λ e. cc) }
+head_kept model.Ptr head tail third u d s = record { name = refl; info = refl; third = s (λ e. cc) (λ e. cc) }
+head_kept model.Struct head tail third u d s = record { name = refl; info = refl; third = s (λ e. cc) (λ e. cc) }
+head_kept model.Union head tail third u d s = record { name = refl; info = refl; third = s (λ e. cc) (λ e. cc) }
+head_kept model.Enum head tail third u d s = record { name = refl; info = refl; third = s (λ e. cc) (λ e. cc) }
+head_kept model.Typedef head tail third u d s = record { name = refl; info = refl; third = s (λ e. cc) (λ e. cc) }
+head_kept model.Volatile head tail third u d s = record { name = refl; info = refl; third = s (λ e. cc) (λ e. cc) }
+head_kept model.Const head tail third u d s = record { name = refl; info = refl; third = s (λ e. cc) (λ e. cc) }
+head_kept model.Restrict head tail third u d s = record { name = refl; info = refl; third = s (λ e. cc) (λ e. cc) }
+head_kept model.Func head tail third u d s = record { name = refl; info = refl; third = s (λ e. cc) (λ e. cc) }
+head_kept model.FuncProto head tail third u d s = record { name = refl; info = refl; third = s (λ e. cc) (λ e. cc) }
+head_kept model.Var head tail third u d s = record { name = refl; info = refl; third = s (λ e. cc) (λ e. cc) }
+head_kept model.DataSec head tail third u d s = record { name = refl; info = refl; third = s (λ e. cc) (λ e. cc) }
+head_kept model.Float head tail third u d s = record { name = refl; info = refl; third = s (λ e. cc) (λ e. cc) }
+head_kept model.DeclTag head tail third u d s = record { name = refl; info = refl; third = s (λ e. cc) (λ e. cc) }
+head_kept model.TypeTag head tail third u d s = record { name = refl; info = refl; third = s (λ e. cc) (λ e. cc) }
+head_kept model.Enum64 head tail third u d s = record { name = refl; info = refl; third = s (λ e. cc) (λ e. cc) }
 
 -- the kinds without members
 pub no_members : (k : BtfKind) (r : Record) → k ≢ code.Struct → k ≢ code.Union → members (kind k) r ≡ None

@@ -1,6 +1,6 @@
 //! The words of the record at a place.
 
-ghost use Rattle.std.specs.Prelude.{◌≡◌, ◌+◌, ◌≤◌, ℕ, List, length, drop, Some, IfSome, IsTrue};
+ghost use Rattle.std.specs.Prelude.{◌≡◌, ◌≢◌, ◌⊎◌, ◌+◌, ◌≤◌, ℕ, List, length, Some};
 ghost use Rattle.btf_model.specs.Blob as blob;
 ghost use Rattle.btf_model.specs.Record.{Record, Kind, kind_of};
 ghost use Rattle.btf_model.specs.Spelling.{kept};
@@ -30,44 +30,38 @@ const NO_HEAD: Head = Head {
     third: 0,
 };
 
-/// A bit for the number of each kind of which reading does not retain the whole head: Unknown, ARRAY and FWD.
-const DROPPING: u32 = 0x89;
+/// The numbers of the kinds whose third word is not retained.
+const ARRAY: u32 = 3;
 
-/// Whether reading retains the whole head. Most types have such a kind.
+const FWD: u32 = 7;
+
+/// What reading retains of the third word of a record, by the number of its kind.
 #[inline(always)]
-fn is_whole(head: &Head) -> bool
-    ensures { IsTrue result → (k : Kind) (tail : List ℕ) → kind_of head.now.info ≡ Some k
-        → HasHead head.now (kept k (headed head.now tail)) }
+fn kept_third(kind: u32, third: u32) -> u32
+    ensures dropped { (kind ≡ 3) ⊎ (kind ≡ 7) → result ≡ 0 }
+    ensures kept { kind ≢ 3 → kind ≢ 7 → result ≡ third }
 {
-    DROPPING >> head.kind() & 1 == 0
+    if kind == ARRAY || kind == FWD {
+        0
+    } else {
+        third
+    }
 }
 
-/// What reading retains of a head.
+/// What reading retains of a head. There is no branch but for the kind 0, which only the type of id 0 has in most tables.
 #[inline(always)]
 pub(crate) fn kept_head(head: Head) -> Head
     ensures { (k : Kind) (tail : List ℕ) → kind_of head.info ≡ Some k
         → HasHead result (kept k (headed head tail)) }
 {
-    if is_whole(&head) {
-        return head;
+    let kind = head.kind();
+    if kind == 0 {
+        return NO_HEAD;
     }
-    dropped_head(head)
-}
-
-/// The same, kind by kind.
-#[inline(always)]
-fn dropped_head(head: Head) -> Head
-    ensures { (k : Kind) (tail : List ℕ) → kind_of head.info ≡ Some k
-        → HasHead result (kept k (headed head tail)) }
-{
-    match BtfKind::try_from(head.kind()) {
-        Ok(BtfKind::Unknown) => NO_HEAD,
-        Ok(BtfKind::Fwd | BtfKind::Array) => Head {
-            name: head.name,
-            info: head.info,
-            third: 0,
-        },
-        _ => head,
+    Head {
+        name: head.name,
+        info: head.info,
+        third: kept_third(kind, head.third),
     }
 }
 
@@ -93,24 +87,6 @@ pub(crate) fn head_at(types: &[u8], place: u32, endianness: Endianness) -> Head
     ensures { (r : Record) → IsPlace endianness types.now place r → HasHead result r }
 {
     kept_head(raw_head_at(types, place, endianness))
-}
-
-/// The first three words of the record at a place, if there is one and reading retains all three.
-#[inline(always)]
-pub(crate) fn whole_head_at(types: &[u8], place: u32, endianness: Endianness) -> Option<Head>
-    ensures { IfSome result (λ head. (r : Record) → IsPlace endianness types.now place r
-        → HasHead head r) }
-{
-    let at = place as usize;
-    if types.len() < at + 12 {
-        return None;
-    }
-    let head = Head {
-        name: word_at(types, at, endianness),
-        info: word_at(types, at + 4, endianness),
-        third: word_at(types, at + 8, endianness),
-    };
-    if is_whole(&head) { Some(head) } else { None }
 }
 
 /// The bytes after the first three words of the record at a place; none if the place is past the section.
