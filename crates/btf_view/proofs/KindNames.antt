@@ -184,3 +184,26 @@ pub no_members : (k : BtfKind) (r : Record) → k ≢ code.Struct → k ≢ code
 no_members code.Struct r s u = absurd (s refl)
 no_members code.Union r s u = absurd (u refl)
 no_members k r s u = refl
+
+-- the kinds of which reading retains the whole head
+pub whole_head : (k : Kind) (head : Head) (tail : List ℕ) → k ≢ model.Unknown → k ≢ model.Array → k ≢ model.Fwd → HasHead head (kept k (headed head tail))
+whole_head model.Unknown head tail u a f = absurd (u refl)
+whole_head model.Array head tail u a f = absurd (a refl)
+whole_head model.Fwd head tail u a f = absurd (f refl)
+whole_head model.Int head tail u a f = record { name = refl; info = refl; third = refl }
+whole_head model.Ptr head tail u a f = record { name = refl; info = refl; third = refl }
+whole_head model.Struct head tail u a f = record { name = refl; info = refl; third = refl }
+whole_head model.Union head tail u a f = record { name = refl; info = refl; third = refl }
+whole_head model.Enum head tail u a f = record { name = refl; info = refl; third = refl }
+whole_head model.Typedef head tail u a f = record { name = refl; info = refl; third = refl }
+whole_head model.Volatile head tail u a f = record { name = refl; info = refl; third = refl }
+whole_head model.Const head tail u a f = record { name = refl; info = refl; third = refl }
+whole_head model.Restrict head tail u a f = record { name = refl; info = refl; third = refl }
+whole_head model.Func head tail u a f = record { name = refl; info = refl; third = refl }
+whole_head model.FuncProto head tail u a f = record { name = refl; info = refl; third = refl }
+whole_head model.Var head tail u a f = record { name = refl; info = refl; third = refl }
+whole_head model.DataSec head tail u a f = record { name = refl; info = refl; third = refl }
+whole_head model.Float head tail u a f = record { name = refl; info = refl; third = refl }
+whole_head model.DeclTag head tail u a f = record { name = refl; info = refl; third = refl }
+whole_head model.TypeTag head tail u a f = record { name = refl; info = refl; third = refl }
+whole_head model.Enum64 head tail u a f = record { name = refl; info = refl; third = refl }

@@ -7,12 +7,25 @@ ghost use Rattle.btf_view.specs.Forms.{Begins, HasAppended, ListsMembers, member
 ghost use Rattle.btf_view.specs.Places.{AreIndexed, ArePlaces, IsPlace};
 
 use crate::forms::{Member, TypeWords, member_of, type_words};
-use crate::record::{head_at, tail_at, word_at};
+use crate::record::{head_at, tail_at, whole_head_at, word_at};
 use btf_plain::{BtfKind, Endianness};
 
-/// Writes the first words of the type at a place.
+/// Writes the first words of the type at a place. Most types take the short way.
 #[inline(always)]
 fn write_words(types: &[u8], place: u32, endianness: Endianness, slot: &mut TypeWords)
+    ensures { (r : Record) → IsPlace endianness types.now place r → slot.new ≡ words_in r }
+{
+    let Some(head) = whole_head_at(types, place, endianness) else {
+        write_any(types, place, endianness, slot);
+        return;
+    };
+    *slot = type_words(&head);
+}
+
+/// The same for each type. A call of its own keeps its values out of the registers of the loop.
+#[cold]
+#[inline(never)]
+fn write_any(types: &[u8], place: u32, endianness: Endianness, slot: &mut TypeWords)
     ensures { (r : Record) → IsPlace endianness types.now place r → slot.new ≡ words_in r }
 {
     *slot = type_words(&head_at(types, place, endianness));

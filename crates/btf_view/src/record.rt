@@ -1,6 +1,6 @@
 //! The words of the record at a place.
 
-ghost use Rattle.std.specs.Prelude.{◌≡◌, ◌≢◌, ◌⊎◌, ◌+◌, ◌≤◌, ℕ, List, length, Some};
+ghost use Rattle.std.specs.Prelude.{◌≡◌, ◌⊎◌, ◌≢◌, ◌+◌, ◌≤◌, ℕ, List, length, Some, IfSome, IsTrue};
 ghost use Rattle.btf_model.specs.Blob as blob;
 ghost use Rattle.btf_model.specs.Record.{Record, Kind, kind_of};
 ghost use Rattle.btf_model.specs.Spelling.{kept};
@@ -29,6 +29,18 @@ const NO_HEAD: Head = Head {
     info: 0,
     third: 0,
 };
+
+/// A bit for the number of each kind of which reading does not retain the whole head: Unknown, ARRAY and FWD.
+const DROPPING: u32 = 0x89;
+
+/// Whether reading retains the whole head. Most types have such a kind.
+#[inline(always)]
+fn is_whole(head: &Head) -> bool
+    ensures { IsTrue result → (k : Kind) (tail : List ℕ) → kind_of head.now.info ≡ Some k
+        → HasHead head.now (kept k (headed head.now tail)) }
+{
+    DROPPING >> head.kind() & 1 == 0
+}
 
 /// The numbers of the kinds whose third word is not retained.
 const ARRAY: u32 = 3;
@@ -87,6 +99,24 @@ pub(crate) fn head_at(types: &[u8], place: u32, endianness: Endianness) -> Head
     ensures { (r : Record) → IsPlace endianness types.now place r → HasHead result r }
 {
     kept_head(raw_head_at(types, place, endianness))
+}
+
+/// The first three words of the record at a place, if there is one and reading retains all three.
+#[inline(always)]
+pub(crate) fn whole_head_at(types: &[u8], place: u32, endianness: Endianness) -> Option<Head>
+    ensures { IfSome result (λ head. (r : Record) → IsPlace endianness types.now place r
+        → HasHead head r) }
+{
+    let at = place as usize;
+    if types.len() < at + 12 {
+        return None;
+    }
+    let head = Head {
+        name: word_at(types, at, endianness),
+        info: word_at(types, at + 4, endianness),
+        third: word_at(types, at + 8, endianness),
+    };
+    if is_whole(&head) { Some(head) } else { None }
 }
 
 /// The bytes after the first three words of the record at a place; none if the place is past the section.
