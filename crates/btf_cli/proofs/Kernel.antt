@@ -10,7 +10,7 @@ use Rattle.btf_rewrite_model.specs.declared.feature.FillPolicy.TheVariants.{Keep
 use Rattle.btf_rewrite_model.proofs.Kernels.{AgreeWith}
 use Rattle.btf_table.specs.Features.{Called}
 use Rattle.btf_rewrite_model.specs.FeatureSet.{feature_name}
-use Rattle.btf_cli.specs.Setting.{Setting, Grants, FillsSized, SectionSize, SymbolOffset, KsymsId, PlaceholderId, Sets, fill_word, texts}
+use Rattle.btf_cli.specs.Setting.{Setting, Grants, FillsSized, SectionSize, SymbolOffset, KsymsId, PlaceholderId, Sets, fill_word, word_texts}
 use Rattle.btf_cli.specs.Settings.{SetAll, is_grant, kernel_set, is_fill, policy_set}
 use Rattle.btf_cli.specs.Request.{AreSet, asks_feature, policy_named}
 use Rattle.btf_cli.specs.declared.request.Request.{Request}
@@ -34,7 +34,7 @@ word_grants word (PlaceholderId id) f sets =
 abbrev named_among : List (String Global) → BtfFeature → Bool
 named_among words f = list_any (λ (word : String Global). bytes_eq (string_bytes word) (feature_name f)) words
 
-words_grant : (words : List (String Global)) (settings : List Setting) (f : BtfFeature) → SetAll (texts words) settings → named_among words f ≡ list_any (is_grant f) settings
+words_grant : (words : List (String Global)) (settings : List Setting) (f : BtfFeature) → SetAll (word_texts words) settings → named_among words f ≡ list_any (is_grant f) settings
 words_grant [] [] f all = refl
 words_grant [] (s ∷ settings) f all = absurd all
 words_grant (w ∷ words) [] f all = absurd all
@@ -51,7 +51,7 @@ word_fills word (SymbolOffset name offset) sets = ap (λ (w : List ℕ). bytes_e
 word_fills word (KsymsId id) sets = ap (λ (w : List ℕ). bytes_eq w fill_word) sets.1
 word_fills word (PlaceholderId id) sets = ap (λ (w : List ℕ). bytes_eq w fill_word) sets.1
 
-words_fill : (words : List (String Global)) (settings : List Setting) → SetAll (texts words) settings → list_any (λ (word : String Global). bytes_eq (string_bytes word) fill_word) words ≡ list_any is_fill settings
+words_fill : (words : List (String Global)) (settings : List Setting) → SetAll (word_texts words) settings → list_any (λ (word : String Global). bytes_eq (string_bytes word) fill_word) words ≡ list_any is_fill settings
 words_fill [] [] all = refl
 words_fill [] (s ∷ settings) all = absurd all
 words_fill (w ∷ words) [] all = absurd all

@@ -5,7 +5,7 @@ use Rattle.std.specs.Option.{option_or}
 use Rattle.std.specs.Str.{bytes_eq}
 use Rattle.std.proofs.lemmas.List.{take_all}
 use Rattle.btf_plain.specs.declared.section_index.SectionIndex.{SectionIndex}
-use Rattle.btf_cli.specs.Setting.{Setting, SectionSize, SymbolOffset, Sets, texts}
+use Rattle.btf_cli.specs.Setting.{Setting, SectionSize, SymbolOffset, Sets, word_texts}
 use Rattle.btf_cli.specs.Settings.{SetAll, last_set, size_set, offset_set}
 use Rattle.btf_cli.proofs.Asked.{asked_is}
 
@@ -25,7 +25,7 @@ last_push number [] setting = sym (option_or_none (number setting))
 last_push number (s ∷ settings) setting = ap (λ o. option_or o (number s)) (last_push number settings setting) ∙ sym (option_or_assoc (number setting) (last_set number settings) (number s))
 
 -- the setting at the index of a word
-set_at : (words : List (String Global)) (settings : List Setting) (i : ℕ) (word : String Global) → SetAll (texts words) settings → i < length words → word ≡ slice_index_or words i word
+set_at : (words : List (String Global)) (settings : List Setting) (i : ℕ) (word : String Global) → SetAll (word_texts words) settings → i < length words → word ≡ slice_index_or words i word
     → (setting : Setting) × Sets (string_bytes word) setting × (take (suc i) settings ≡ take i settings ++ setting ∷ [])
 set_at [] settings i word all lt is = absurd (omega (arith, lt))
 set_at (w ∷ words) [] i word all lt is = absurd all
@@ -39,7 +39,7 @@ pub record IsNext (text : List ℕ) (settings : List Setting) (i : ℕ) : Type 0
   pub sets : Sets text setting
   pub more : take (i + 1) settings ≡ take i settings ++ setting ∷ []
 
-pub next_set : (words : List (String Global)) (settings : List Setting) (i : ℕ) (word : String Global) (text : List ℕ) → SetAll (texts words) settings → i < length words → word ≡ slice_index_or words i word → text ≡ string_bytes word → IsNext text settings i
+pub next_set : (words : List (String Global)) (settings : List Setting) (i : ℕ) (word : String Global) (text : List ℕ) → SetAll (word_texts words) settings → i < length words → word ≡ slice_index_or words i word → text ≡ string_bytes word → IsNext text settings i
 next_set words settings i word text all lt is text_is =
     let at = set_at words settings i word all lt is in
     let next : i + 1 ≡ suc i = omega arith in
@@ -53,13 +53,13 @@ next_last number text settings i setting next sets =
 
 -- ---- all words
 
-settings_len : (words : List (String Global)) (settings : List Setting) → SetAll (texts words) settings → length settings ≡ length words
+settings_len : (words : List (String Global)) (settings : List Setting) → SetAll (word_texts words) settings → length settings ≡ length words
 settings_len [] [] all = refl
 settings_len [] (s ∷ settings) all = absurd all
 settings_len (w ∷ words) [] all = absurd all
 settings_len (w ∷ words) (s ∷ settings) all = ap suc (settings_len words settings all.1)
 
-pub settings_whole : (words : List (String Global)) (settings : List Setting) (i : ℕ) → SetAll (texts words) settings → length words ≤ i → take i settings ≡ settings
+pub settings_whole : (words : List (String Global)) (settings : List Setting) (i : ℕ) → SetAll (word_texts words) settings → length words ≤ i → take i settings ≡ settings
 settings_whole words settings i all le = take_all i settings (omega (arith, le, settings_len words settings all))
 
 -- ---- sections

@@ -27,7 +27,7 @@ use Rattle.btf_cli.specs.declared.line.Query.{Query}
 use Rattle.btf_cli.specs.declared.line.Query.TheVariants.{Copy, Types, Size, Compat}
 use Rattle.btf_cli.specs.declared.line.Command.{Command}
 use Rattle.btf_cli.specs.declared.line.Command.TheVariants.{Ask, Rewrite}
-use Rattle.btf_cli.specs.Answer.{Compares, RewritesAsAsked, Writes, Declines, IsAnswer, IsDeclined}
+use Rattle.btf_cli.specs.Answer.{ComparesWithin, RewritesAsAsked, Writes, Declines, IsAnswer, IsDeclined}
 use Rattle.btf_cli.specs.Fault.{fault_refusal}
 use Rattle.btf_cli.specs.Output.{output_bytes}
 use Rattle.btf_cli.specs.declared.output.Output.{Output}
@@ -35,7 +35,7 @@ use Rattle.btf_cli.specs.declared.fault.Fault.{Fault}
 use Rattle.btf_cli.specs.declared.fault.Fault.TheVariants as faults
 use Rattle.btf_cli.proofs.Asked.{settings_once}
 
-compared_or_refused : (t : Table) (id other : ℕ) (found : Bool × ℕ) (refusal : Refusal) → Compares t id other (Ok found) → Compares t id other (Err refusal) → ⊥
+compared_or_refused : (t : Table) (id other : ℕ) (found : Bool × ℕ) (refusal : Refusal) → ComparesWithin t id other (Ok found) → ComparesWithin t id other (Err refusal) → ⊥
 compared_or_refused t id other found refusal has not = false≢true (ap is_ok (one_plain t t [] (id_pair id other) (Err refusal) (Ok found.0) not.0 has.0 not.1 has.1).0)
 
 sized_or_refused : (records : List Record) (id n : ℕ) (refusal : Refusal) → HasSize records id (Ok n) → HasSize records id (Err refusal) → ⊥

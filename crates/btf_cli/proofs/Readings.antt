@@ -6,7 +6,7 @@ use Rattle.std.specs.Option.{option_to_list}
 use Rattle.std.proofs.lemmas.List.{append-nil, map-append, take-append-drop, take_all}
 use Rattle.std.proofs.lemmas.List.Elements.{filter_map-append}
 use Rattle.btf_rewrite_model.specs.declared.ksyms_ids.KsymsIds.{KsymsIds}
-use Rattle.btf_cli.specs.Setting.{Setting, KsymsId, PlaceholderId, Sets, texts}
+use Rattle.btf_cli.specs.Setting.{Setting, KsymsId, PlaceholderId, Sets, word_texts}
 use Rattle.btf_cli.specs.Settings.{SetAll, SetIds, ksyms_set, placeholder_set}
 use Rattle.btf_cli.specs.Word.{setting_of}
 use Rattle.btf_cli.specs.declared.word.Word.{Word}
@@ -29,16 +29,16 @@ set_one (w ∷ front) word back [] all = absurd all
 set_one (w ∷ front) word back (s ∷ settings) all = set_one front word back settings all.1
 
 -- the texts before a word, with it, and around it
-pub texts_next : (words : List (String Global)) (i : ℕ) (word : String Global) → i < length words → word ≡ slice_index_or words i word → texts (take (i + 1) words) ≡ texts (take i words) ++ string_bytes word ∷ []
+pub texts_next : (words : List (String Global)) (i : ℕ) (word : String Global) → i < length words → word ≡ slice_index_or words i word → word_texts (take (i + 1) words) ≡ word_texts (take i words) ++ string_bytes word ∷ []
 texts_next words i word lt is =
     let next : i + 1 ≡ suc i = omega arith in
-    ap (λ (n : ℕ). texts (take n words)) next ∙ ap texts (take-suc words i word lt) ∙ map-append string_bytes (take i words) (slice_index_or words i word ∷ [])
-    ∙ ap (λ (w : String Global). texts (take i words) ++ string_bytes w ∷ []) (sym is)
+    ap (λ (n : ℕ). word_texts (take n words)) next ∙ ap word_texts (take-suc words i word lt) ∙ map-append string_bytes (take i words) (slice_index_or words i word ∷ [])
+    ∙ ap (λ (w : String Global). word_texts (take i words) ++ string_bytes w ∷ []) (sym is)
 
-pub texts_round : (words : List (String Global)) (i : ℕ) (word : String Global) → i < length words → word ≡ slice_index_or words i word → texts words ≡ texts (take i words) ++ string_bytes word ∷ texts (drop (suc i) words)
+pub texts_round : (words : List (String Global)) (i : ℕ) (word : String Global) → i < length words → word ≡ slice_index_or words i word → word_texts words ≡ word_texts (take i words) ++ string_bytes word ∷ word_texts (drop (suc i) words)
 texts_round words i word lt is =
-    ap texts (sym (take-append-drop i words)) ∙ map-append string_bytes (take i words) (drop i words) ∙ ap (λ (ws : List (String Global)). texts (take i words) ++ texts ws) (drop-cons words i word lt)
-    ∙ ap (λ (w : String Global). texts (take i words) ++ string_bytes w ∷ texts (drop (suc i) words)) (sym is)
+    ap word_texts (sym (take-append-drop i words)) ∙ map-append string_bytes (take i words) (drop i words) ∙ ap (λ (ws : List (String Global)). word_texts (take i words) ++ word_texts ws) (drop-cons words i word lt)
+    ∙ ap (λ (w : String Global). word_texts (take i words) ++ string_bytes w ∷ word_texts (drop (suc i) words)) (sym is)
 
 -- ---- the words that were read
 
@@ -113,26 +113,26 @@ pub record IsMet (words : List (String Global)) (i : ℕ) (word : String Global)
   pub within : i < length words
   pub at : word ≡ slice_index_or words i word
   pub text_is : text ≡ string_bytes word
-  pub read : HaveRead (texts (take i words)) ksyms placeholder
+  pub read : HaveRead (word_texts (take i words)) ksyms placeholder
 
-round : (words : List (String Global)) (i : ℕ) (word : String Global) (text : List ℕ) (ksyms placeholder : Option ℕ) → IsMet words i word text ksyms placeholder → texts words ≡ texts (take i words) ++ text ∷ texts (drop (suc i) words)
-round words i word text ksyms placeholder met = texts_round words i word met.within met.at ∙ ap (λ (t : List ℕ). texts (take i words) ++ t ∷ texts (drop (suc i) words)) (sym met.text_is)
+round : (words : List (String Global)) (i : ℕ) (word : String Global) (text : List ℕ) (ksyms placeholder : Option ℕ) → IsMet words i word text ksyms placeholder → word_texts words ≡ word_texts (take i words) ++ text ∷ word_texts (drop (suc i) words)
+round words i word text ksyms placeholder met = texts_round words i word met.within met.at ∙ ap (λ (t : List ℕ). word_texts (take i words) ++ t ∷ word_texts (drop (suc i) words)) (sym met.text_is)
 
 -- an invalid one
-pub unread : (words : List (String Global)) (i : ℕ) (word : String Global) (text : List ℕ) (ksyms placeholder : Option ℕ) → IsMet words i word text ksyms placeholder → ((setting : Setting) → Sets text setting → ⊥) → (settings : List Setting) → SetAll (texts words) settings → ⊥
+pub unread : (words : List (String Global)) (i : ℕ) (word : String Global) (text : List ℕ) (ksyms placeholder : Option ℕ) → IsMet words i word text ksyms placeholder → ((setting : Setting) → Sets text setting → ⊥) → (settings : List Setting) → SetAll (word_texts words) settings → ⊥
 unread words i word text ksyms placeholder met unset settings all =
-    let one = set_one (texts (take i words)) text (texts (drop (suc i) words)) settings (subst (λ (ws : List (List ℕ)). SetAll ws settings) (round words i word text ksyms placeholder met) all) in unset one.0 one.1
+    let one = set_one (word_texts (take i words)) text (word_texts (drop (suc i) words)) settings (subst (λ (ws : List (List ℕ)). SetAll ws settings) (round words i word text ksyms placeholder met) all) in unset one.0 one.1
 
 -- one that gives an id again
 pub ksyms_again : (words : List (String Global)) (i : ℕ) (word : String Global) (text : List ℕ) (setting : Setting) (id : ℕ) (ksyms placeholder : Option ℕ) → IsMet words i word text ksyms placeholder → (ksyms ≡ None → ⊥) → Sets text setting → setting ≡ KsymsId id
-    → (settings : List Setting) (ids : Option KsymsIds) → SetAll (texts words) settings → SetIds settings ids → ⊥
+    → (settings : List Setting) (ids : Option KsymsIds) → SetAll (word_texts words) settings → SetIds settings ids → ⊥
 ksyms_again words i word text setting id ksyms placeholder met there sets setting_is settings ids all is =
-    second_ksyms (texts (take i words)) (texts (drop (suc i) words)) text ksyms id placeholder settings ids met.read there (subst (λ (s : Setting). Sets text s) setting_is sets) (subst (λ (ws : List (List ℕ)). SetAll ws settings) (round words i word text ksyms placeholder met) all) is
+    second_ksyms (word_texts (take i words)) (word_texts (drop (suc i) words)) text ksyms id placeholder settings ids met.read there (subst (λ (s : Setting). Sets text s) setting_is sets) (subst (λ (ws : List (List ℕ)). SetAll ws settings) (round words i word text ksyms placeholder met) all) is
 
 pub placeholder_again : (words : List (String Global)) (i : ℕ) (word : String Global) (text : List ℕ) (setting : Setting) (id : ℕ) (ksyms placeholder : Option ℕ) → IsMet words i word text ksyms placeholder → (placeholder ≡ None → ⊥) → Sets text setting
-    → setting ≡ PlaceholderId id → (settings : List Setting) (ids : Option KsymsIds) → SetAll (texts words) settings → SetIds settings ids → ⊥
+    → setting ≡ PlaceholderId id → (settings : List Setting) (ids : Option KsymsIds) → SetAll (word_texts words) settings → SetIds settings ids → ⊥
 placeholder_again words i word text setting id ksyms placeholder met there sets setting_is settings ids all is =
-    second_placeholder (texts (take i words)) (texts (drop (suc i) words)) text placeholder id ksyms settings ids met.read there (subst (λ (s : Setting). Sets text s) setting_is sets) (subst (λ (ws : List (List ℕ)). SetAll ws settings) (round words i word text ksyms placeholder met) all) is
+    second_placeholder (word_texts (take i words)) (word_texts (drop (suc i) words)) text placeholder id ksyms settings ids met.read there (subst (λ (s : Setting). Sets text s) setting_is sets) (subst (λ (ws : List (List ℕ)). SetAll ws settings) (round words i word text ksyms placeholder met) all) is
 
 -- a placeholder alone
 alone : (words : List (List ℕ)) (id : ℕ) (settings : List Setting) (ids : Option KsymsIds) → HaveRead words None (Some id) → SetAll words settings → SetIds settings ids → ⊥
@@ -148,14 +148,14 @@ placeholder_alone words ksyms placeholder id none some settings ids read all is 
 -- one more of the words
 pub read_next : (words : List (String Global)) (i : ℕ) (word : String Global) (text : List ℕ) (setting : Setting) (ksyms placeholder new_ksyms new_placeholder : Option ℕ) → IsMet words i word text ksyms placeholder → Sets text setting
     → option_to_list ksyms ++ filter_map ksyms_set (setting ∷ []) ≡ option_to_list new_ksyms → option_to_list placeholder ++ filter_map placeholder_set (setting ∷ []) ≡ option_to_list new_placeholder
-    → HaveRead (texts (take (i + 1) words)) new_ksyms new_placeholder
+    → HaveRead (word_texts (take (i + 1) words)) new_ksyms new_placeholder
 read_next words i word text setting ksyms placeholder new_ksyms new_placeholder met sets more_ksyms more_placeholder =
     subst (λ (ws : List (List ℕ)). HaveRead ws new_ksyms new_placeholder) (sym (texts_next words i word met.within met.at))
-    (read_more (texts (take i words)) (string_bytes word) setting ksyms placeholder new_ksyms new_placeholder met.read (subst (λ (t : List ℕ). Sets t setting) met.text_is sets) more_ksyms more_placeholder)
+    (read_more (word_texts (take i words)) (string_bytes word) setting ksyms placeholder new_ksyms new_placeholder met.read (subst (λ (t : List ℕ). Sets t setting) met.text_is sets) more_ksyms more_placeholder)
 
 -- the whole list
-pub read_whole : (words : List (String Global)) (i : ℕ) (ksyms placeholder : Option ℕ) → length words ≤ i → HaveRead (texts (take i words)) ksyms placeholder → HaveRead (texts words) ksyms placeholder
-read_whole words i ksyms placeholder le read = subst (λ (ws : List (String Global)). HaveRead (texts ws) ksyms placeholder) (take_all i words le) read
+pub read_whole : (words : List (String Global)) (i : ℕ) (ksyms placeholder : Option ℕ) → length words ≤ i → HaveRead (word_texts (take i words)) ksyms placeholder → HaveRead (word_texts words) ksyms placeholder
+read_whole words i ksyms placeholder le read = subst (λ (ws : List (String Global)). HaveRead (word_texts ws) ksyms placeholder) (take_all i words le) read
 
 -- a word without an id
 pub no_ksyms : (word : Word) → ((id : ℕ) → word ≡ words.Ksyms id → ⊥) → ksyms_set (setting_of word) ≡ None

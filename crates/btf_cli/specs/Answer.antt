@@ -21,10 +21,10 @@ use Rattle.btf_cli.specs.declared.line.Command.TheVariants.{Ask, Rewrite}
 use Rattle.btf_cli.specs.Listing.{listing, size_line, comparison_lines}
 
 -- The comparison of two types of a table returns this answer and this number of started pairs, or this error.
-abbrev pub Compares : Table → ℕ → ℕ → Result (Bool × ℕ) Refusal → Type 0
-Compares t id other (Ok found) =
+abbrev pub ComparesWithin : Table → ℕ → ℕ → Result (Bool × ℕ) Refusal → Type 0
+ComparesWithin t id other (Ok found) =
     (starts : List Pair) × Plain t t [] (id_pair id other) (Ok found.0) starts × (found.1 ≡ length (firsts starts))
-Compares t id other (Err refusal) = (starts : List Pair) × Plain t t [] (id_pair id other) (Err refusal) starts
+ComparesWithin t id other (Err refusal) = (starts : List Pair) × Plain t t [] (id_pair id other) (Err refusal) starts
 
 -- The rewrite of a table with the settings of a request returns this table or this error. The settings give the
 -- kernel's features, the policy, and the layout.
@@ -42,7 +42,7 @@ Writes (Ask Copy) t written = written ≡ canon t
 Writes (Ask Types) t written = written ≡ listing t
 Writes (Ask (Size id)) t written = (n : ℕ) × HasSize t.records id (Ok n) × (written ≡ size_line n)
 Writes (Ask (Compat id other)) t written =
-    (b : Bool) × (n : ℕ) × Compares t id other (Ok (b, n)) × (written ≡ comparison_lines b n)
+    (b : Bool) × (n : ℕ) × ComparesWithin t id other (Ok (b, n)) × (written ≡ comparison_lines b n)
 Writes (Rewrite request) t written = (new : Table) × RewritesAsAsked request t (Ok new) × (written ≡ canon new)
 
 -- the error of a command on a table
@@ -50,7 +50,7 @@ abbrev pub Declines : Command → Table → Refusal → Type 0
 Declines (Ask Copy) t refusal = ⊥
 Declines (Ask Types) t refusal = ⊥
 Declines (Ask (Size id)) t refusal = HasSize t.records id (Err refusal)
-Declines (Ask (Compat id other)) t refusal = Compares t id other (Err refusal)
+Declines (Ask (Compat id other)) t refusal = ComparesWithin t id other (Err refusal)
 Declines (Rewrite request) t refusal = RewritesAsAsked request t (Err refusal)
 
 -- the command line of a rewrite

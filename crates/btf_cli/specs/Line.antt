@@ -4,7 +4,7 @@ use Rattle.std.specs.Prelude.{String}
 use Rattle.std.specs.declared.alloc.Global.{Global}
 use Rattle.btf_model.specs.declared.endianness.Endianness.{Endianness}
 use Rattle.btf_model.specs.declared.endianness.Endianness.TheVariants.{Little, Big}
-use Rattle.btf_cli.specs.Setting.{texts, IsId}
+use Rattle.btf_cli.specs.Setting.{word_texts, IsId}
 use Rattle.btf_cli.specs.Request.{Requests}
 use Rattle.btf_cli.specs.declared.line.Line.{Line}
 use Rattle.btf_cli.specs.declared.line.Query.{Query}
@@ -33,7 +33,7 @@ AsksCommand words (Rewrite request) = (rest : List (List ℕ)) × (words ≡ cod
 -- the words are this command line: a byte order, and then a command
 abbrev pub Asks : List (String Global) → Line → Type 0
 Asks words line =
-    (rest : List (List ℕ)) × (texts words ≡ order_word line.endianness ∷ rest)
+    (rest : List (List ℕ)) × (word_texts words ≡ order_word line.endianness ∷ rest)
     × AsksCommand rest line.command
 
 -- some words are this command line

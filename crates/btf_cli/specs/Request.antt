@@ -8,13 +8,13 @@ use Rattle.btf_rewrite_model.specs.declared.feature.BtfFeature.{BtfFeature}
 use Rattle.btf_rewrite_model.specs.declared.feature.FillPolicy.{FillPolicy}
 use Rattle.btf_rewrite_model.specs.declared.feature.FillPolicy.TheVariants.{KeepSized, FillSized}
 use Rattle.btf_rewrite_model.specs.FeatureSet.{feature_name}
-use Rattle.btf_cli.specs.Setting.{Setting, fill_word, texts}
+use Rattle.btf_cli.specs.Setting.{Setting, fill_word, word_texts}
 use Rattle.btf_cli.specs.Settings.{SetAll, SetIds}
 use Rattle.btf_cli.specs.declared.request.Request.{Request}
 
 -- the words of a request
 abbrev pub request_words : Request → List (List ℕ)
-request_words request = texts request.words.now
+request_words request = word_texts request.words.now
 
 -- the ids of `.ksyms` in a request
 abbrev pub request_ids : Request → Option KsymsIds

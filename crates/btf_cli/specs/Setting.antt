@@ -7,8 +7,8 @@ use Rattle.btf_rewrite_model.specs.declared.feature.BtfFeature.{BtfFeature}
 use Rattle.btf_rewrite_model.specs.FeatureSet.{feature_name}
 
 -- the texts of the words
-abbrev pub texts : List (String Global) → List (List ℕ)
-texts words = map string_bytes words
+abbrev pub word_texts : List (String Global) → List (List ℕ)
+word_texts words = map string_bytes words
 
 -- one or more decimal digits, and their number, which has this many bits
 abbrev pub IsDecimal : ℕ → List ℕ → ℕ → Type 0

@@ -1,7 +1,7 @@
 //! The comparison of two types of one table.
 
 ghost use Rattle.btf_plain.specs.Error.{MeetsOrNoMemory};
-ghost use Rattle.btf_cli.specs.Answer.{Compares};
+ghost use Rattle.btf_cli.specs.Answer.{ComparesWithin};
 
 use btf_compare::types_are_compatible_traced;
 use btf_plain::BtfError;
@@ -15,7 +15,7 @@ pub fn compare_ids(
     id: u32,
     other: u32,
 ) -> Result<(bool, usize), BtfError>
-    ensures { MeetsOrNoMemory (λ found. found) result (Compares table.now id other) }
+    ensures { MeetsOrNoMemory (λ found. found) result (ComparesWithin table.now id other) }
 {
     let mut starts = Vec::new(alloc);
     let answer = types_are_compatible_traced(table, id, table, other, &mut starts)?;

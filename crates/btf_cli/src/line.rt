@@ -52,13 +52,13 @@ fn read_order(word: &str) -> Option<Endianness>
 impl Query {
     ghost use Rattle.std.specs.Prelude.{IfSome, IfNone};
     ghost use Rattle.btf_cli.specs.Line.{AsksQuery};
-    ghost use Rattle.btf_cli.specs.Setting.{texts};
+    ghost use Rattle.btf_cli.specs.Setting.{word_texts};
     ghost use Rattle.btf_cli.specs.declared.line.Query.{Query};
 
     /// The query in the words after the byte order.
     fn read(words: &[String]) -> Option<Query>
-        ensures some { IfSome result (AsksQuery (texts words.now)) }
-        ensures none { IfNone result ((query : Query) → AsksQuery (texts words.now) query → ⊥) }
+        ensures some { IfSome result (AsksQuery (word_texts words.now)) }
+        ensures none { IfNone result ((query : Query) → AsksQuery (word_texts words.now) query → ⊥) }
     {
         match words {
             [word] => match word.as_str() {
@@ -85,13 +85,13 @@ impl Query {
 impl<'a> Command<'a> {
     ghost use Rattle.std.specs.Prelude.{IfSome, IfNone};
     ghost use Rattle.btf_cli.specs.Line.{AsksCommand};
-    ghost use Rattle.btf_cli.specs.Setting.{texts};
+    ghost use Rattle.btf_cli.specs.Setting.{word_texts};
     ghost use Rattle.btf_cli.specs.declared.line.Command.{Command};
 
     /// The command in the words after the byte order.
     fn read(words: &'a [String]) -> Option<Command<'a>>
-        ensures some { IfSome result (AsksCommand (texts words.now)) }
-        ensures none { IfNone result ((command : Command) → AsksCommand (texts words.now) command
+        ensures some { IfSome result (AsksCommand (word_texts words.now)) }
+        ensures none { IfNone result ((command : Command) → AsksCommand (word_texts words.now) command
             → ⊥) }
     {
         let (word, rest) = words.split_first()?;

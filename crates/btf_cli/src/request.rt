@@ -27,14 +27,14 @@ fn store_id(place: &mut Option<u32>, id: u32) -> Option<()>
 
 impl<'a> Request<'a> {
     ghost use Rattle.std.specs.Prelude.{◌≡◌, IfSome, IfNone};
-    ghost use Rattle.btf_cli.specs.Setting.{texts};
+    ghost use Rattle.btf_cli.specs.Setting.{word_texts};
     ghost use Rattle.btf_cli.specs.Request.{has_word, asks_feature, policy_named, Requests};
     ghost use Rattle.btf_cli.specs.declared.request.Request.{Request};
 
     /// The request in these words, or None if they are no valid request.
     pub fn read(words: &'a [String]) -> Option<Request<'a>>
-        ensures some { IfSome result (Requests (texts words.now)) }
-        ensures none { IfNone result ((request : Request) → Requests (texts words.now) request
+        ensures some { IfSome result (Requests (word_texts words.now)) }
+        ensures none { IfNone result ((request : Request) → Requests (word_texts words.now) request
             → ⊥) }
     {
         let mut ksyms = None;

@@ -27,10 +27,10 @@ GivesSection before (Some (Err e)) after =
 
 -- The result of reading the sections of a part and checking that each name can be read: the sections, without their
 -- names, or the error.
-abbrev pub AreReadable : Endianness → ℕ → List ℕ → List ℕ → Result (List Section) Refusal → Type 0
-AreReadable order size strings bytes (Ok sections) =
+abbrev pub AreReadableSections : Endianness → ℕ → List ℕ → List ℕ → Result (List Section) Refusal → Type 0
+AreReadableSections order size strings bytes (Ok sections) =
     (named : List Named) × (sections_of named ≡ sections) × AreNamed order size strings bytes (Ok named)
-AreReadable order size strings bytes (Err refusal) = AreNamed order size strings bytes (Err refusal)
+AreReadableSections order size strings bytes (Err refusal) = AreNamed order size strings bytes (Err refusal)
 
 -- The result is the two words before the records of a section and the bytes after them; None if there are fewer
 -- bytes.

@@ -11,22 +11,22 @@ use Rattle.btf_layout_model.specs.Alignment.InPlace.{none, also}
 
 -- A table: 1 is an INT of 4 bytes, 2 an INT of 1 byte, 3 a PTR, 4 an ARRAY of 5 of type 2, 5 a TYPEDEF of type 1,
 -- 6 an INT of 16 bytes, 7 an INT of 3 bytes, 8 an INT of 0 bytes.
-abbrev numbers : List Record
-numbers = unknown ∷ int 0 4 32 ∷ int 0 1 8 ∷ ptr 0 0 ∷ array 0 2 1 5 ∷ typedef 1 1 ∷ int 0 16 128 ∷ int 0 3 24 ∷ int 0 0 0 ∷ []
+abbrev number_types : List Record
+number_types = unknown ∷ int 0 4 32 ∷ int 0 1 8 ∷ ptr 0 0 ∷ array 0 2 1 5 ∷ typedef 1 1 ∷ int 0 16 128 ∷ int 0 3 24 ∷ int 0 0 0 ∷ []
 
 -- an INT is aligned to its size, up to 8 bytes; the size need not be a power of two
-sizes : Aligns numbers 1 (Ok 4) × Aligns numbers 6 (Ok 8) × Aligns numbers 7 (Ok 3)
+sizes : Aligns number_types 1 (Ok 4) × Aligns number_types 6 (Ok 8) × Aligns number_types 7 (Ok 3)
 sizes = (fixed 1 4 refl, fixed 6 8 refl, fixed 7 3 refl)
 
-pointer : Aligns numbers 3 (Ok 8)
+pointer : Aligns number_types 3 (Ok 8)
 pointer = fixed 3 8 refl
 
 -- an ARRAY is aligned as its elements, and a TYPEDEF as its type
-same : Aligns numbers 4 (Ok 1) × Aligns numbers 5 (Ok 4)
+same : Aligns number_types 4 (Ok 1) × Aligns number_types 5 (Ok 4)
 same = (same_as 4 2 (Ok 1) refl (fixed 2 1 refl), same_as 5 1 (Ok 4) refl (fixed 1 4 refl))
 
 -- void, a size of 0, and an id that the table does not have
-without : Aligns numbers 0 (Err (UnexpectedBtfType 0)) × Aligns numbers 8 (Err (UnexpectedBtfType 8)) × Aligns numbers 9 (Err (UnknownBtfType 9))
+without : Aligns number_types 0 (Err (UnexpectedBtfType 0)) × Aligns number_types 8 (Err (UnexpectedBtfType 8)) × Aligns number_types 9 (Err (UnknownBtfType 9))
 without = (unaligned 0 (UnexpectedBtfType 0) refl, unaligned 8 (UnexpectedBtfType 8) refl, unaligned 9 (UnknownBtfType 9) refl)
 
 -- the members of `struct { char a; int b; }`: their bits count from the beginning

@@ -17,7 +17,7 @@ use Rattle.btf_loader_model.specs.Loader.{AreRelocationSections, bytes_named}
 use Rattle.btf_loader_model.specs.Refused.{Reason, HasTable, HasReason, IsReasonAmong, sections_reason}
 use Rattle.btf_object_model.specs.Sanitized.{table_name, ext_name}
 use Rattle.btf_relocate_model.specs.Modules.{Targets}
-use Rattle.btf_loader.specs.Results.{setting}
+use Rattle.btf_loader.specs.Results.{kernel_setting}
 use Rattle.btf_loader.specs.Errors.{of_object, of_table, of_ext, IsReport, IsLoaderCause}
 use Rattle.btf_loader.specs.declared.error.LoaderError.{LoaderError}
 use Rattle.btf_loader.specs.declared.error.LoaderError.TheVariants as loader
@@ -76,7 +76,7 @@ module _ (bytes : List ℕ) (targets : Targets) (is_shared refuses_errors : Bool
   module _ (o : Object) (local : Table) (sections : List (ℕ × List (List ℕ))) (has : HasTable bytes o local)
       (are : AreRelocationSections o.header.order local.strings (bytes_named o ext_name) sections) where
     abbrev pub found : Option Reason
-    found = sections_reason (setting local targets) is_shared refuses_errors o bytes sections
+    found = sections_reason (kernel_setting local targets) is_shared refuses_errors o bytes sections
 
     has_reason : (reason : Option Reason) → found ≡ reason → HasReason bytes targets is_shared refuses_errors reason
     has_reason reason is = record { object = o; local = local; has_table = has; sections = sections; are_sections = are; reason_is = is }

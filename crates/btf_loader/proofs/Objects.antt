@@ -8,7 +8,7 @@ use Rattle.btf_elf_model.specs.Object.{Object, IsObject}
 use Rattle.btf_elf_model.specs.declared.file_header.FileHeader.{FileHeader}
 use Rattle.btf_relocate_model.specs.Modules.{Targets}
 use Rattle.btf_loader_model.specs.Loader.{Outcomes, IsRelocatedAmong, bytes_named, is_unreadable, relocated_file}
-use Rattle.btf_loader.specs.Results.{setting}
+use Rattle.btf_loader.specs.Results.{kernel_setting}
 use Rattle.btf_loader.proofs.Causes.{are_sections}
 use Rattle.btf_object_model.specs.Sanitized.{table_name, ext_name}
 
@@ -19,7 +19,7 @@ pub is_relocated : (bytes : List ℕ) (targets : Targets) (is_shared : Bool) (o 
     → Some section ≡ bytes_named o ext_name → IsExt h.order section local.strings (Ok e) → sections ≡ e.relocations
     → start ≡ bytes → file ≡ new
     → list_any (is_unreadable local.strings) sections ≡ false
-    → (outcomes, new) ≡ relocated_file (setting local targets) is_shared o start sections
+    → (outcomes, new) ≡ relocated_file (kernel_setting local targets) is_shared o start sections
     → IsRelocatedAmong bytes targets is_shared outcomes file
 is_relocated bytes targets is_shared o h table section local e sections outcomes start new file object header has_table is_table has_ext is_ext are starts ends readable did = record {
   object = o;
@@ -31,5 +31,5 @@ is_relocated bytes targets is_shared o h table section local e sections outcomes
   sections = sections;
   are_sections = are_sections o h section local e sections header has_ext is_ext are;
   are_readable = readable;
-  relocated = ap (λ (f : List ℕ). (outcomes, f)) ends ∙ did ∙ ap (λ (b : List ℕ). relocated_file (setting local targets) is_shared o b sections) starts;
+  relocated = ap (λ (f : List ℕ). (outcomes, f)) ends ∙ did ∙ ap (λ (b : List ℕ). relocated_file (kernel_setting local targets) is_shared o b sections) starts;
 }

@@ -49,7 +49,7 @@ ExtendsNumbers number sections index old new =
     new ++ of_placed number (drop (index + 1) sections) ≡ old ++ of_placed number (drop index sections)
 
 -- The section of an index is added to the places.
-abbrev pub Adds : List SectionHeader → ℕ → Places → Places → Type 0
-Adds sections index old new =
+abbrev pub AddsPlaces : List SectionHeader → ℕ → Places → Places → Type 0
+AddsPlaces sections index old new =
     ExtendsNumbers start_of sections index old.starts.items new.starts.items
     × ExtendsNumbers end_of sections index old.ends.items new.ends.items

@@ -20,20 +20,20 @@ refuses_errors Refuse = true
 refuses_errors Keep = false
 
 -- a program's table, and the tables that it is relocated against
-abbrev pub setting : Table → Targets → KernelSetting
-setting local targets = record { local = local; targets = targets }
+abbrev pub kernel_setting : Table → Targets → KernelSetting
+kernel_setting local targets = record { local = local; targets = targets }
 
 -- those of a loader
-abbrev pub setting_of : Loader → KernelSetting
-setting_of loader = setting loader.local.now (targets_view loader.targets.now)
+abbrev pub loader_setting : Loader → KernelSetting
+loader_setting loader = kernel_setting loader.local.now (targets_view loader.targets.now)
 
 -- what a loader makes of a file and its sections of records: their outcomes, and the new file
 abbrev pub file_relocated : Loader → List ℕ → List (ℕ × List (List ℕ)) → List (ℕ × Outcomes) × List ℕ
 file_relocated loader file sections =
-    relocated_file (setting_of loader) (is_shared loader.policy) loader.object.now file sections
+    relocated_file (loader_setting loader) (is_shared loader.policy) loader.object.now file sections
 
 -- the same for the section of records whose name is at this string offset
 abbrev pub records_relocated : Loader → List ℕ → ℕ → List (List ℕ) → Outcomes × List ℕ
 records_relocated loader file name_offset records =
-    relocated_at (setting_of loader) (is_shared loader.policy)
-    (section_at (setting_of loader) loader.object.now name_offset) file records
+    relocated_at (loader_setting loader) (is_shared loader.policy)
+    (section_at (loader_setting loader) loader.object.now name_offset) file records

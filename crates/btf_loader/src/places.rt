@@ -3,7 +3,7 @@
 ghost use Rattle.std.specs.Prelude.{◌≡◌, count_by, nat_lt, IfOk, IfSome, IfNone, OnOk};
 ghost use Rattle.std.specs.List.Sorted.{IsNonDecreasing};
 ghost use Rattle.btf_loader_model.specs.Refused.{shares_place};
-ghost use Rattle.btf_loader.specs.Places.{has_byte, IsPlace, HasNoPlace, HasPlaces, Adds};
+ghost use Rattle.btf_loader.specs.Places.{has_byte, IsPlace, HasNoPlace, HasPlaces, AddsPlaces};
 
 use crate::names::has_bytes;
 use btf_elf::{Object, SectionHeader};
@@ -66,7 +66,7 @@ impl Places {
 
     /// Adds the section of an index, if it has a byte.
     fn add(&mut self, object: &Object<'_>, index: usize) -> Result<(), AllocError>
-        ensures { OnOk result (Adds object.now.sections index self.old self.new) }
+        ensures { OnOk result (AddsPlaces object.now.sections index self.old self.new) }
     {
         if let Some((start, end)) = place_of(object, index) {
             self.starts.push(start)?;

@@ -9,7 +9,7 @@ ghost use Rattle.btf_loader_model.specs.Refused.{BadRecord, BadSectionName, bad_
 ghost use Rattle.btf_loader.specs.Errors.{Reports};
 ghost use Rattle.btf_loader.specs.Names.{HasIndices};
 ghost use Rattle.btf_loader.specs.Places.{HasPlaces};
-ghost use Rattle.btf_loader.specs.Results.{outcomes_of, refuses_errors, setting_of, file_relocated, records_relocated};
+ghost use Rattle.btf_loader.specs.Results.{outcomes_of, refuses_errors, loader_setting, file_relocated, records_relocated};
 ghost use Rattle.btf_loader.specs.declared.step.Refusals.TheVariants.{Refuse};
 ghost use Rattle.btf_relocate.specs.Sections.{is_shared};
 ghost use Rattle.btf_table.specs.Readable.{IsReadableEnd};
@@ -76,7 +76,7 @@ impl<'a, 'o, 't> Loader<'a, 'o, 't> {
             → any_error (map outcomes_of r.items) ≡ false) }
         ensures readable { OnOk result (list_any (is_unreadable self.now.local.now.strings)
             (map relocation relocations.now) ≡ false) }
-        ensures reports { Reports (sections_reason (setting_of self.now)
+        ensures reports { Reports (sections_reason (loader_setting self.now)
             (is_shared self.now.policy) (refuses_errors self.now.refusals) self.now.object.now
             file.old (map relocation relocations.now)) result }
     {
@@ -104,7 +104,7 @@ impl<'a, 'o, 't> Loader<'a, 'o, 't> {
             → has_error (option_map (λ v. v.items) r) ≡ false) }
         ensures readable { OnOk result
             (is_err (text_at self.now.local.now.strings section.now.0) ≡ false) }
-        ensures reports { Reports (records_reason (setting_of self.now)
+        ensures reports { Reports (records_reason (loader_setting self.now)
             (is_shared self.now.policy) (refuses_errors self.now.refusals) self.now.object.now
             file.old (relocation section.now)) result }
     {
@@ -130,7 +130,7 @@ impl<'a, 'o, 't> Loader<'a, 'o, 't> {
         file: &mut [u8],
     ) -> Result<Vec<Outcome>, AllocError>
         ensures { IfOk result (λ outcomes. (Some outcomes.items, file.new)
-            ≡ relocated_at (setting_of self.now)
+            ≡ relocated_at (loader_setting self.now)
             (is_shared self.now.policy) (Some section.now) file.old records.now) }
     {
         let start = file.len().min(section.offset as usize);
@@ -163,7 +163,7 @@ impl<'a, 'o, 't> Loader<'a, 'o, 't> {
         requires named { HasIndices self.now.named.now self.now.object.now }
         requires readable { IfSome self.now.readable_end (IsReadableEnd self.now.local.now.strings) }
         ensures index { IfOk result (λ index. index ≡ index_at
-            (setting_of self.now) self.now.object.now name_offset) }
+            (loader_setting self.now) self.now.object.now name_offset) }
         ensures readable { OnOk result
             (is_err (text_at self.now.local.now.strings name_offset) ≡ false) }
         ensures reports { Reports

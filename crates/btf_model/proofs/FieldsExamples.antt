@@ -9,18 +9,18 @@ use Rattle.btf_model.specs.Refusal.{Refusal, UnexpectedBtfType}
 use Rattle.btf_model.specs.Table.{Table}
 use Rattle.btf_model.specs.Walk.{Ends, unmodified_in}
 use Rattle.btf_model.specs.Fields.{Fields, FieldsFind, BothComposite, IsAt, field_by}
-use Rattle.btf_model.specs.CompatExamples.{table_of, pair, itself}
+use Rattle.btf_model.specs.CompatExamples.{table_with, pair_of_ids, itself}
 
 -- ENUM 1 "e___a", ENUM64 2 "e___b", STRUCT 3 and UNION 4 of no members, VAR 5 and VAR 6 of type 7, and INT 7 at bit 8.
 abbrev types : Table
-types = record (table_of (record { name = 1; info = 0x06000000; third = 4; tail = [] } ∷ record { name = 7; info = 0x13000000; third = 8; tail = [] }
+types = record (table_with (record { name = 1; info = 0x06000000; third = 4; tail = [] } ∷ record { name = 7; info = 0x13000000; third = 8; tail = [] }
     ∷ record { name = 0; info = 0x04000000; third = 0; tail = [] } ∷ record { name = 0; info = 0x05000000; third = 0; tail = [] }
     ∷ record { name = 0; info = 0x0e000000; third = 7; tail = 0 ∷ [] } ∷ record { name = 0; info = 0x0e000000; third = 7; tail = 0 ∷ [] }
     ∷ record { name = 0; info = 0x01000000; third = 4; tail = 0x00080010 ∷ [] } ∷ [])) { strings = 0 ∷ codes "e___a" ++ 0 ∷ codes "e___b" ++ 0 ∷ [] }
 
 -- an answer that is found at the first place
-at_once : (id other : ℕ) (answer : Result Bool Refusal) → FieldsFind types types (pair id other) (Ends answer) → Fields types id types other answer
-at_once id other answer found = inl (0, pair id other, omega arith, refl, found)
+at_once : (id other : ℕ) (answer : Result Bool Refusal) → FieldsFind types types (pair_of_ids id other) (Ends answer) → Fields types id types other answer
+at_once id other answer found = inl (0, pair_of_ids id other, omega arith, refl, found)
 
 -- the kind of one side is neither STRUCT nor UNION
 no_composite : (k q : Kind) → is_composite k ≡ false → BothComposite k q → ⊥

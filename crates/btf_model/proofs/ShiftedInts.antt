@@ -9,7 +9,7 @@ use Rattle.btf_model.specs.Walk.{Ends}
 use Rattle.btf_model.specs.Fields.{Fields, FieldsFind, BothComposite, int_offset}
 use Rattle.btf_model.specs.Compat.{Plain, Decided, Finds}
 use Rattle.btf_model.specs.Compat.Walked.{decided}
-use Rattle.btf_model.specs.CompatExamples.{table_of}
+use Rattle.btf_model.specs.CompatExamples.{table_with}
 use Rattle.btf_model.specs.Laws.{IsShifted, with_itself}
 use Rattle.btf_model.specs.Blob.{IsValid}
 use Rattle.btf_model.proofs.ChainExamples.{no_modifier, on_itself, alone}
@@ -43,7 +43,7 @@ abbrev shifted : Record
 shifted = record { name = 0; info = 0x01000000; third = 4; tail = 0x00080010 ∷ [] }
 
 abbrev one_int : Table
-one_int = record (table_of (shifted ∷ [])) { fallbacks = None ∷ None ∷ [] }
+one_int = record (table_with (shifted ∷ [])) { fallbacks = None ∷ None ∷ [] }
 
 int_is_whole : IsWhole shifted
 int_is_whole = (Int, record { kind = refl; tail = refl; words = (omega arith, (omega arith, (omega arith, (omega arith, tt)))) }, refl)

@@ -41,10 +41,10 @@ value_of_sign : enum_variants (3 ∷ 0xffffffff ∷ []) ≡ record { name = 3; v
 value_of_sign = refl
 
 -- a UNION with a fallback, and one without
-abbrev kept : Fallback
-kept = record { signed = true; variants = record { name = 3; value = 4294967301 } ∷ [] }
+abbrev kept_fallback : Fallback
+kept_fallback = record { signed = true; variants = record { name = 3; value = 4294967301 } ∷ [] }
 
-values_of_union : (variants_by 7 (kind_of 0x05000001) unknown (Some kept) ≡ Ok kept.variants) × (variants_by 7 (kind_of 0x05000001) unknown None ≡ Err (UnexpectedBtfType 7))
+values_of_union : (variants_by 7 (kind_of 0x05000001) unknown (Some kept_fallback) ≡ Ok kept_fallback.variants) × (variants_by 7 (kind_of 0x05000001) unknown None ≡ Err (UnexpectedBtfType 7))
 values_of_union = (refl, refl)
 
 -- "xdp" at 1: two sections of that name, with one of the empty name between them

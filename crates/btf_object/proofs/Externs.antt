@@ -10,7 +10,7 @@ use Rattle.std.proofs.lemmas.Option.{same_Some, none-some, slice_get-get_or, sli
 use Rattle.btf_model.specs.Record as kinds
 use Rattle.btf_model.specs.Record.{Kind, Record, unknown, kind_of, vlen}
 use Rattle.btf_model.specs.Table.{Table}
-use Rattle.btf_rewrite_model.specs.Made.{Entry, entries, record_at, kind_at}
+use Rattle.btf_rewrite_model.specs.Made.{Entry, section_entries, record_at, kind_at}
 use Rattle.btf_rewrite_model.specs.Made as made
 use Rattle.btf_plain.specs.Items.{code_entry_words}
 use Rattle.btf_plain.specs.declared.items.DataSecEntry.{DataSecEntry}
@@ -88,10 +88,10 @@ one_known t es i xs new x lt p finds is =
       count = omega (arith, ap (λ (ys : List Extern). length ys) is, length-append xs (x ∷ []), p.count);
     }
 
-pub all_known : (t : Table) (tail : List ℕ) (es : List DataSecEntry) (i : ℕ) (xs : List Extern) → tail ≡ flat_map code_entry_words es → length es ≤ i → AreKnownBefore t es i xs → FindsExterns t (entries tail) (Some (map model_extern xs))
+pub all_known : (t : Table) (tail : List ℕ) (es : List DataSecEntry) (i : ℕ) (xs : List Extern) → tail ≡ flat_map code_entry_words es → length es ≤ i → AreKnownBefore t es i xs → FindsExterns t (section_entries tail) (Some (map model_extern xs))
 all_known t tail es i xs words end p = (p.are ∙ ap (map model_entry) (take_all i es end) ∙ sym (all_entries tail es words), p.known)
 
-pub unknown_there : (t : Table) (tail : List ℕ) (es : List DataSecEntry) (i : ℕ) (found : Option Extern) → tail ≡ flat_map code_entry_words es → i < length es → FindsExtern t (model_entry (at es i)) (option_map model_extern found) → found ≡ None → FindsExterns t (entries tail) None
+pub unknown_there : (t : Table) (tail : List ℕ) (es : List DataSecEntry) (i : ℕ) (found : Option Extern) → tail ≡ flat_map code_entry_words es → i < length es → FindsExtern t (model_entry (at es i)) (option_map model_extern found) → found ≡ None → FindsExterns t (section_entries tail) None
 unknown_there t tail es i found words lt finds none = (
   i,
   model_entry (at es i),
@@ -204,7 +204,7 @@ laid_out-len : (from : ℕ) (xs : List model.Extern) → length (externs_laid_ou
 laid_out-len from [] = refl
 laid_out-len from (x ∷ xs) = let rest : length (externs_laid_out (from + x.value.size) xs) ≡ length xs = laid_out-len (from + x.value.size) xs in omega (arith, rest)
 
-pub has_externs : (t : Table) (r : Record) (xs sorted : List Extern) → FindsExterns t (entries r.tail) (Some (map model_extern xs)) → length sorted ≡ length xs → IsSortedBy is_below sorted → IsStableBy is_below xs sorted → HasExterns t r (map model_extern sorted)
+pub has_externs : (t : Table) (r : Record) (xs sorted : List Extern) → FindsExterns t (section_entries r.tail) (Some (map model_extern xs)) → length sorted ≡ length xs → IsSortedBy is_below sorted → IsStableBy is_below xs sorted → HasExterns t r (map model_extern sorted)
 has_externs t r xs sorted known len rising stable =
     let both = are_sorted xs sorted len rising stable in
     record { externs = map model_extern xs; known = known; rising = both.0; stable = both.1 }

@@ -11,7 +11,7 @@ use Rattle.btf_model.specs.Record as kinds
 use Rattle.btf_model.specs.Record.{Kind, Record, unknown, kind_of, vlen}
 use Rattle.btf_model.specs.Table.{Table}
 use Rattle.btf_model.specs.Text.{text_at}
-use Rattle.btf_rewrite_model.specs.Made.{Entry, entries, record_at, kind_at, made_data_sec}
+use Rattle.btf_rewrite_model.specs.Made.{Entry, section_entries, record_at, kind_at, made_data_sec}
 use Rattle.btf_rewrite_model.specs.Made as made
 use Rattle.btf_rewrite_model.specs.Pass.{Layout}
 use Rattle.btf_rewrite_model.proofs.Granted.{kind_made, vlen_small}
@@ -32,8 +32,8 @@ pub entries_up_to : (es : List DataSecEntry) (i : ℕ) → i < length es → map
 entries_up_to es i lt = ap (map model_entry) (take_more es i zero_entry lt) ∙ map-append model_entry (take i es) (at es i ∷ [])
 
 -- all entries
-pub all_entries : (tail : List ℕ) (es : List DataSecEntry) → tail ≡ flat_map code_entry_words es → entries tail ≡ map model_entry es
-all_entries tail es words = ap entries words ∙ entries_of_words es
+pub all_entries : (tail : List ℕ) (es : List DataSecEntry) → tail ≡ flat_map code_entry_words es → section_entries tail ≡ map model_entry es
+all_entries tail es words = ap section_entries words ∙ entries_of_words es
 
 module _ (layout : Layout) (t : Table) where
   -- the offset of an entry is known
@@ -67,21 +67,21 @@ module _ (layout : Layout) (t : Table) where
 
   -- all entries have known offsets
   pub all_placed : (tail : List ℕ) (es made : List DataSecEntry) (i : ℕ) → tail ≡ flat_map code_entry_words es → length es ≤ i → ArePlaced es i made
-      → Some (map model_entry made) ≡ (if list_all (λ e. is_some (entry_offset layout t e)) (entries tail) then Some (map (entry_at_offset layout t) (entries tail)) else None)
+      → Some (map model_entry made) ≡ (if list_all (λ e. is_some (entry_offset layout t e)) (section_entries tail) then Some (map (entry_at_offset layout t) (section_entries tail)) else None)
   all_placed tail es made i words end p =
-      let all : map model_entry (take i es) ≡ entries tail = ap (map model_entry) (take_all i es end) ∙ sym (all_entries tail es words) in
-      let known : list_all knows (entries tail) ≡ true = ap (list_all knows) (sym all) ∙ p.known in
+      let all : map model_entry (take i es) ≡ section_entries tail = ap (map model_entry) (take_all i es end) ∙ sym (all_entries tail es words) in
+      let known : list_all knows (section_entries tail) ≡ true = ap (list_all knows) (sym all) ∙ p.known in
       ap (λ (xs : List Entry). Some xs) (p.placed_are ∙ ap (map (entry_at_offset layout t)) all)
-      ∙ sym (ap (λ (b : Bool). if b then Some (map (entry_at_offset layout t) (entries tail)) else None) known)
+      ∙ sym (ap (λ (b : Bool). if b then Some (map (entry_at_offset layout t) (section_entries tail)) else None) known)
 
   -- the offset of one entry is not known
   pub not_placed : (tail : List ℕ) (es : List DataSecEntry) (i : ℕ) → tail ≡ flat_map code_entry_words es → i < length es → entry_offset layout t (model_entry (at es i)) ≡ None
-      → None ≡ (if list_all (λ e. is_some (entry_offset layout t e)) (entries tail) then Some (map (entry_at_offset layout t) (entries tail)) else None)
+      → None ≡ (if list_all (λ e. is_some (entry_offset layout t e)) (section_entries tail) then Some (map (entry_at_offset layout t) (section_entries tail)) else None)
   not_placed tail es i words lt none =
       let unknown_one : knows (model_entry (at es i)) ≡ false = ap (λ (o : Option ℕ). is_some o) none in
-      let not_all : list_all knows (entries tail) ≡ false =
+      let not_all : list_all knows (section_entries tail) ≡ false =
       ap (list_all knows) (all_entries tail es words) ∙ list_all-map knows model_entry es ∙ list_all_at (λ e. knows (model_entry e)) es i zero_entry lt unknown_one in
-      sym (ap (λ (b : Bool). if b then Some (map (entry_at_offset layout t) (entries tail)) else None) not_all)
+      sym (ap (λ (b : Bool). if b then Some (map (entry_at_offset layout t) (section_entries tail)) else None) not_all)
 
   -- ---- the size and the entries
 
@@ -89,24 +89,24 @@ module _ (layout : Layout) (t : Table) where
   texted r = known_section_size layout (text_at t.strings r.name)
 
   abbrev all_known : Record → Bool
-  all_known r = list_all knows (entries r.tail)
+  all_known r = list_all knows (section_entries r.tail)
 
   -- a DATASEC that has a size is not completed
   pub has_size : (r : Record) → (r.third == 0) ≡ false → completed_parts layout t r ≡ None
-  has_size r is = ap (λ (b : Bool). if b && is_some (texted r) && all_known r then Some (unwrap_or (texted r) 0, map (entry_at_offset layout t) (entries r.tail)) else None) is
+  has_size r is = ap (λ (b : Bool). if b && is_some (texted r) && all_known r then Some (unwrap_or (texted r) 0, map (entry_at_offset layout t) (section_entries r.tail)) else None) is
 
   -- nor is one whose section is not known
   pub no_section : (r : Record) → (r.third == 0) ≡ true → texted r ≡ None → completed_parts layout t r ≡ None
   no_section r zero none =
-      ap (λ (b : Bool). if b && is_some (texted r) && all_known r then Some (unwrap_or (texted r) 0, map (entry_at_offset layout t) (entries r.tail)) else None) zero
-      ∙ ap (λ (o : Option ℕ). if is_some o && all_known r then Some (unwrap_or o 0, map (entry_at_offset layout t) (entries r.tail)) else None) none
+      ap (λ (b : Bool). if b && is_some (texted r) && all_known r then Some (unwrap_or (texted r) 0, map (entry_at_offset layout t) (section_entries r.tail)) else None) zero
+      ∙ ap (λ (o : Option ℕ). if is_some o && all_known r then Some (unwrap_or o 0, map (entry_at_offset layout t) (section_entries r.tail)) else None) none
 
   -- if the size of the section is known, the entries decide
-  pub by_entries : (r : Record) (size : ℕ) (es : Option (List Entry)) → (r.third == 0) ≡ true → texted r ≡ Some size → es ≡ (if list_all (λ e. is_some (entry_offset layout t e)) (entries r.tail) then Some (map (entry_at_offset layout t) (entries r.tail)) else None)
+  pub by_entries : (r : Record) (size : ℕ) (es : Option (List Entry)) → (r.third == 0) ≡ true → texted r ≡ Some size → es ≡ (if list_all (λ e. is_some (entry_offset layout t e)) (section_entries r.tail) then Some (map (entry_at_offset layout t) (section_entries r.tail)) else None)
       → completed_parts layout t r ≡ option_map (λ (xs : List Entry). (size, xs)) es
   by_entries r size es zero some is =
       let both : List Entry → ℕ × List Entry = λ xs. (size, xs) in
-      let made : List Entry = map (entry_at_offset layout t) (entries r.tail) in
+      let made : List Entry = map (entry_at_offset layout t) (section_entries r.tail) in
       let Parts : Option ℕ → ℕ × List Entry = λ o. (unwrap_or o 0, made) in
       let decided : (b : Bool) → (if b then Some (both made) else None) ≡ option_map both (if b then Some made else None) =
       λ b. elim b as (λ (b : Bool). (if b then Some (both made) else None) ≡ option_map both (if b then Some made else None)) [ true ↦ refl | false ↦ refl ] in
@@ -117,16 +117,16 @@ module _ (layout : Layout) (t : Table) where
   -- completed
   pub completed_is : (r : Record) (parts : ℕ × List Entry) → completed_parts layout t r ≡ Some parts → final_parts layout t r ≡ parts
   completed_is r parts is =
-      let made : ℕ × List Entry = (unwrap_or (texted r) 0, map (entry_at_offset layout t) (entries r.tail)) in
-      elim (is_completed layout t r) as (λ (b : Bool). (if b then Some made else None) ≡ Some parts → ◌≡◌ {A = ℕ × List Entry} (if b then made.0 else r.third, if b then made.1 else entries r.tail) parts)
+      let made : ℕ × List Entry = (unwrap_or (texted r) 0, map (entry_at_offset layout t) (section_entries r.tail)) in
+      elim (is_completed layout t r) as (λ (b : Bool). (if b then Some made else None) ≡ Some parts → ◌≡◌ {A = ℕ × List Entry} (if b then made.0 else r.third, if b then made.1 else section_entries r.tail) parts)
       [ true ↦ λ some. same_Some made parts some | false ↦ λ none. absurd (none-some parts none) ] is
 
   -- not completed
-  pub uncompleted_is : (r : Record) → completed_parts layout t r ≡ None → final_parts layout t r ≡ (r.third, entries r.tail)
+  pub uncompleted_is : (r : Record) → completed_parts layout t r ≡ None → final_parts layout t r ≡ (r.third, section_entries r.tail)
   uncompleted_is r is =
-      let made : ℕ × List Entry = (unwrap_or (texted r) 0, map (entry_at_offset layout t) (entries r.tail)) in
-      let own : ℕ × List Entry = (r.third, entries r.tail) in
-      elim (is_completed layout t r) as (λ (b : Bool). (if b then Some made else None) ≡ None → ◌≡◌ {A = ℕ × List Entry} (if b then made.0 else r.third, if b then made.1 else entries r.tail) own)
+      let made : ℕ × List Entry = (unwrap_or (texted r) 0, map (entry_at_offset layout t) (section_entries r.tail)) in
+      let own : ℕ × List Entry = (r.third, section_entries r.tail) in
+      elim (is_completed layout t r) as (λ (b : Bool). (if b then Some made else None) ≡ None → ◌≡◌ {A = ℕ × List Entry} (if b then made.0 else r.third, if b then made.1 else section_entries r.tail) own)
       [ true ↦ λ some. absurd (none-some made (sym some)) | false ↦ λ none. refl ] is
 
 -- the own size and entries of a DATASEC that is not completed
@@ -206,7 +206,7 @@ pub functions_are : (t : Table) (ids : KsymsIds) (b : BtfType) (r : Record) (es 
 functions_are t ids b r es is here words =
     let record_is : record_at t ids.datasec_id ≡ r = ap (λ (o : Option Record). unwrap_or o unknown) here ∙ ap record_of is in
     list_any-map (λ (e : Entry). is_func (kind_at t e.type)) model_entry es
-    ∙ ap (list_any (λ (e : Entry). is_func (kind_at t e.type))) (sym (ap (λ (x : Record). entries x.tail) record_is ∙ all_entries r.tail es words))
+    ∙ ap (list_any (λ (e : Entry). is_func (kind_at t e.type))) (sym (ap (λ (x : Record). section_entries x.tail) record_is ∙ all_entries r.tail es words))
 
 -- the recorded size of `.ksyms`
 pub ksyms_sizes : (t : Table) (ids : KsymsIds) (b : BtfType) (r : Record) (es : List DataSecEntry) (sizes : List (Option ℕ)) → b ≡ DataSecType r → slice_get t.records ids.datasec_id ≡ Some (record_of b) → kind_of (record_of b).info ≡ Some (type_kind b)
@@ -215,9 +215,9 @@ ksyms_sizes t ids b r es sizes is here kind words are =
     let id : ℕ = ids.datasec_id in
     let record_is : record_at t id ≡ record_of b = ap (λ (o : Option Record). unwrap_or o unknown) here in
     let kind_is : kind_of (record_at t id).info ≡ Some kinds.DataSec = ap (λ (x : Record). kind_of x.info) record_is ∙ kind ∙ ap (λ (x : BtfType). Some (type_kind x)) is in
-    let new : Record = record (record_at t id) { third = 4 * length (entries (record_at t id).tail) } in
-    let entries_are : entries (record_at t id).tail ≡ map model_entry es = ap (λ (x : Record). entries x.tail) (record_is ∙ ap record_of is) ∙ all_entries r.tail es words in
-    let count : length (entries (record_at t id).tail) ≡ length es = ap (λ (xs : List Entry). length xs) entries_are ∙ length-map es model_entry in
+    let new : Record = record (record_at t id) { third = 4 * length (section_entries (record_at t id).tail) } in
+    let entries_are : section_entries (record_at t id).tail ≡ map model_entry es = ap (λ (x : Record). section_entries x.tail) (record_is ∙ ap record_of is) ∙ all_entries r.tail es words in
+    let count : length (section_entries (record_at t id).tail) ≡ length es = ap (λ (xs : List Entry). length xs) entries_are ∙ length-map es model_entry in
     let size_is : data_sec_size new ≡ Some (4 * length es) =
-    ap (λ (k : Option Kind). if has_data_sec_kind k then Some (4 * length (entries (record_at t id).tail)) else None) kind_is ∙ ap (λ (n : ℕ). Some (4 * n)) count in
+    ap (λ (k : Option Kind). if has_data_sec_kind k then Some (4 * length (section_entries (record_at t id).tail)) else None) kind_is ∙ ap (λ (n : ℕ). Some (4 * n)) count in
     ap (λ (ss : List (Option ℕ)). set ss id (Some (4 * length es))) are ∙ ap (set (map data_sec_size t.records) id) (sym size_is) ∙ sym (map-set data_sec_size t.records id new)

@@ -11,7 +11,7 @@ use Rattle.btf_model.specs.Record as kinds
 use Rattle.btf_model.specs.Record.{Kind, Record, unknown, kind_of, vlen}
 use Rattle.btf_model.specs.Table.{Table, Fallback}
 use Rattle.btf_model.specs.Text.{text_at}
-use Rattle.btf_rewrite_model.specs.Made.{Entry, entries, record_at, kind_at, struct, made_data_sec, table_ids}
+use Rattle.btf_rewrite_model.specs.Made.{Entry, section_entries, record_at, kind_at, struct, made_data_sec, table_ids}
 use Rattle.btf_rewrite_model.specs.Pass.{Layout}
 use Rattle.btf_records.specs.BtfType.{record_of, fallback_of, type_kind}
 use Rattle.btf_records.specs.declared.btf_type.BtfType.{BtfType}
@@ -78,10 +78,10 @@ offset_same layout t u k r new old strings is =
 -- a record becomes the same in two tables whose variables have the same offsets
 final_same : (layout : Layout) (t u : Table) (k : Option Kind) (r new : Record) → t.strings ≡ u.strings → ((e : Entry) → entry_offset layout t e ≡ entry_offset layout u e) → IsFinal layout t k r new → IsFinal layout u k r new
 final_same layout t u k r new strings offsets is =
-    let Completed : List ℕ → (Entry → Option ℕ) → Bool = λ texts at. (r.third == 0) && is_some (known_section_size layout (text_at texts r.name)) && list_all (λ e. is_some (at e)) (entries r.tail) in
+    let Completed : List ℕ → (Entry → Option ℕ) → Bool = λ texts at. (r.third == 0) && is_some (known_section_size layout (text_at texts r.name)) && list_all (λ e. is_some (at e)) (section_entries r.tail) in
     let Made : List ℕ → (Entry → Option ℕ) → Type 0 = λ texts at.
     (es : List Entry)
-    × AreInOrder (if Completed texts at then map (λ (e : Entry). record e { offset = unwrap_or (at e) e.offset }) (entries r.tail) else entries r.tail) es
+    × AreInOrder (if Completed texts at then map (λ (e : Entry). record e { offset = unwrap_or (at e) e.offset }) (section_entries r.tail) else section_entries r.tail) es
     × (new ≡ made_data_sec r.name (if Completed texts at then unwrap_or (known_section_size layout (text_at texts r.name)) 0 else r.third) (vlen r.info) es) in
     elim k as (λ (k : Option Kind). IsFinal layout t k r new → IsFinal layout u k r new) [
       | Some kinds.DataSec ↦ λ (made : Made t.strings (λ e. entry_offset layout t e)).

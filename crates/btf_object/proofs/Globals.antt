@@ -10,7 +10,7 @@ use Rattle.btf_model.specs.Record as kinds
 use Rattle.btf_model.specs.Record.{Kind, Record, unknown, kind_of, vlen}
 use Rattle.btf_model.specs.Table.{Table, Fallback}
 use Rattle.btf_model.specs.Text.{FindsName}
-use Rattle.btf_rewrite_model.specs.Made.{Entry, entries, record_at, kind_at, made_data_sec}
+use Rattle.btf_rewrite_model.specs.Made.{Entry, section_entries, record_at, kind_at, made_data_sec}
 use Rattle.btf_rewrite_model.specs.Made as made
 use Rattle.btf_rewrite_model.proofs.Granted.{kind_made, vlen_small}
 use Rattle.btf_plain.specs.Items.{code_entry_words}
@@ -126,7 +126,7 @@ pub puts : (old now new : Table) (id : ℕ) (section : Record) (es : List DataSe
 puts old now new id section es i has words end are made =
     let ids : List ℕ = map type_of (take i es) in
     let fallback : slice_get now.fallbacks id ≡ Some None = ap (λ (t : Table). slice_get t.fallbacks id) are ∙ ap (λ (fs : List (Option Fallback)). slice_get fs id) (globals_fallbacks ids old) ∙ has.1.fallback in
-    let ids_are : ids ≡ map (λ (e : Entry). e.type) (entries section.tail) = ap (map type_of) (take_all i es end) ∙ sym (ap (map (λ (e : Entry). e.type)) (all_entries section.tail es words) ∙ types_of es) in
+    let ids_are : ids ≡ map (λ (e : Entry). e.type) (section_entries section.tail) = ap (map type_of) (take_all i es end) ∙ sym (ap (map (λ (e : Entry). e.type)) (all_entries section.tail es words) ∙ types_of es) in
     replaced now new id section fallback made ∙ ap (λ (t : Table). with_record t id section) are ∙ ap (λ (xs : List ℕ). with_record (with_globals xs old) id section) ids_are
 
 -- ---- the whole step
@@ -135,7 +135,7 @@ laid_types : (from : ℕ) (xs : List model.Extern) → map (λ (e : Entry). e.ty
 laid_types from [] = refl
 laid_types from (x ∷ xs) = ap (λ (ids : List ℕ). x.entry.type ∷ ids) (laid_types (from + x.value.size) xs)
 
-entries_again : (es : List Entry) → entries (flat_map made.entry_words es) ≡ es
+entries_again : (es : List Entry) → section_entries (flat_map made.entry_words es) ≡ es
 entries_again [] = refl
 entries_again (e ∷ es) = ap (λ (rest : List Entry). e ∷ rest) (entries_again es)
 
@@ -167,8 +167,8 @@ module _ (old : Table) (id : ℕ) (r : Record) (finds : FindsName old.strings ol
 
   pub configures : (section : Record) (new : Table) → IsKconfigSection old r section → PutsSection id section old new → IsConfigured old new
   configures section new s put =
-      let types_are : map (λ (e : Entry). e.type) (entries section.tail) ≡ map (λ (x : model.Extern). x.entry.type) s.sorted =
-      ap (λ (x : Record). map (λ (e : Entry). e.type) (entries x.tail)) s.made ∙ ap (map (λ (e : Entry). e.type)) (entries_again (externs_laid_out 0 s.sorted)) ∙ laid_types 0 s.sorted in
+      let types_are : map (λ (e : Entry). e.type) (section_entries section.tail) ≡ map (λ (x : model.Extern). x.entry.type) s.sorted =
+      ap (λ (x : Record). map (λ (e : Entry). e.type) (section_entries x.tail)) s.made ∙ ap (map (λ (e : Entry). e.type)) (entries_again (externs_laid_out 0 s.sorted)) ∙ laid_types 0 s.sorted in
       let table_is : new ≡ with_externs old id s.sorted =
       put ∙ ap (λ (ids : List ℕ). with_record (with_globals ids old) id section) types_are
       ∙ ap (with_record (with_globals (map (λ (x : model.Extern). x.entry.type) s.sorted) old) id) (s.made ∙ ap (λ (x : Record). made_data_sec x.name (total s.sorted) (vlen x.info) (externs_laid_out 0 s.sorted)) (sym record_is)) in
@@ -176,7 +176,7 @@ module _ (old : Table) (id : ℕ) (r : Record) (finds : FindsName old.strings ol
       table_is ∙ sym (ap (λ (b : Bool). if b then with_externs old id s.sorted else old) (below (total s.sorted) (2 ^ 32) s.fits)) in
       configured_by new true (is_zero r.third s.empty) (
         Some s.externs.externs,
-        subst (λ (x : Record). model.FindsExterns old (entries x.tail) (Some s.externs.externs)) (sym record_is) s.externs.known,
+        subst (λ (x : Record). model.FindsExterns old (section_entries x.tail) (Some s.externs.externs)) (sym record_is) s.externs.known,
         record { sorted = s.sorted; rising = s.externs.rising; stable = s.externs.stable; table = chosen },
       )
 
@@ -184,13 +184,13 @@ module _ (old : Table) (id : ℕ) (r : Record) (finds : FindsName old.strings ol
   stays (inr sized) z = configured_by old false (not_zero r.third sized) refl
   stays (inl empty) (inl sized) = absurd (sized empty)
   stays (inl empty) (inr (inl none)) =
-      configured_by old true (is_zero r.third empty) (None, subst (λ (x : Record). model.FindsExterns old (entries x.tail) None) (sym record_is) none, refl)
+      configured_by old true (is_zero r.third empty) (None, subst (λ (x : Record). model.FindsExterns old (section_entries x.tail) None) (sym record_is) none, refl)
   stays (inl empty) (inr (inr large)) =
       let chosen : old ≡ (if nat_lt (total large.0) (2 ^ 32) then with_externs old id large.0 else old) =
       sym (ap (λ (b : Bool). if b then with_externs old id large.0 else old) (not_below (total large.0) (2 ^ 32) large.2)) in
       configured_by old true (is_zero r.third empty) (
         Some large.1.externs,
-        subst (λ (x : Record). model.FindsExterns old (entries x.tail) (Some large.1.externs)) (sym record_is) large.1.known,
+        subst (λ (x : Record). model.FindsExterns old (section_entries x.tail) (Some large.1.externs)) (sym record_is) large.1.known,
         record { sorted = large.0; rising = large.1.rising; stable = large.1.stable; table = chosen },
       )
 

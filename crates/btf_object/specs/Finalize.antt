@@ -8,7 +8,7 @@ use Rattle.btf_model.specs.Refusal.{Refusal}
 use Rattle.btf_model.specs.Table.{Table}
 use Rattle.btf_model.specs.Text.{text_at}
 use Rattle.btf_rewrite_model.specs.Checks.{in_a_word}
-use Rattle.btf_rewrite_model.specs.Made.{Entry, entries, record_at, kind_at, struct}
+use Rattle.btf_rewrite_model.specs.Made.{Entry, section_entries, record_at, kind_at, struct}
 use Rattle.btf_rewrite_model.specs.Pass.{Layout}
 use Rattle.btf_plain.specs.declared.items.DataSecEntry.{DataSecEntry}
 use Rattle.btf_table.specs.KsymsStep.{model_entry}
@@ -49,7 +49,7 @@ parts_of parts = (parts.0, map model_entry parts.1.items)
 abbrev pub completed_parts : Layout → Table → Record → Option (ℕ × List Entry)
 completed_parts layout t r =
     if is_completed layout t r
-    then Some (unwrap_or (known_section_size layout (text_at t.strings r.name)) 0, map (entry_at_offset layout t) (entries r.tail))
+    then Some (unwrap_or (known_section_size layout (text_at t.strings r.name)) 0, map (entry_at_offset layout t) (section_entries r.tail))
     else None
 
 -- the size and the entries of a DATASEC, completed or not
@@ -82,7 +82,7 @@ pub record ResizesAt (id size : ℕ) (old new : Table) : Type 0 where
   pub elsewhere : (k : ℕ) → k ≢ id → record_at new k ≡ record_at old k
 
 -- the entries of a DATASEC at the offsets of their symbols; none if one of the offsets is not known
-abbrev pub entries_placed : Layout → Table → Record → Option (List Entry)
-entries_placed layout t r =
-    if list_all (λ e. is_some (entry_offset layout t e)) (entries r.tail)
-    then Some (map (entry_at_offset layout t) (entries r.tail)) else None
+abbrev pub entries_at_offsets : Layout → Table → Record → Option (List Entry)
+entries_at_offsets layout t r =
+    if list_all (λ e. is_some (entry_offset layout t e)) (section_entries r.tail)
+    then Some (map (entry_at_offset layout t) (section_entries r.tail)) else None

@@ -6,7 +6,7 @@ use Rattle.btf_model.specs.Record.{Kind, Record, kind_of, vlen}
 use Rattle.btf_model.specs.Refusal.{Refusal}
 use Rattle.btf_model.specs.Table.{Table}
 use Rattle.btf_model.specs.Text.{FindsName}
-use Rattle.btf_rewrite_model.specs.Made.{Entry, entries, record_at, kind_at, made_data_sec}
+use Rattle.btf_rewrite_model.specs.Made.{Entry, section_entries, record_at, kind_at, made_data_sec}
 use Rattle.btf_table.specs.KsymsStep.{model_entry}
 use Rattle.btf_object_model.specs.Finalized.{kconfig_name}
 use Rattle.btf_object_model.specs.Kconfig as model
@@ -46,7 +46,7 @@ model_extern x = record { entry = model_entry x.entry.now; value = config_value_
 -- The externs of a DATASEC's record, in order.
 pub record HasExterns (t : Table) (r : Record) (sorted : List model.Extern) : Type 0 where
   pub externs : List model.Extern
-  pub known : FindsExterns t (entries r.tail) (Some externs)
+  pub known : FindsExterns t (section_entries r.tail) (Some externs)
   pub rising : IsSorted extern_cmp sorted
   pub stable : IsStable extern_cmp externs sorted
 
@@ -62,7 +62,7 @@ pub record IsKconfigSection (t : Table) (r new : Record) : Type 0 where
 -- The DATASEC has a size, or not all externs are known, or their total size exceeds 32 bits.
 abbrev pub StaysAsItIs : Table → Record → Type 0
 StaysAsItIs t r =
-    (r.third ≢ 0) ⊎ (FindsExterns t (entries r.tail) None
+    (r.third ≢ 0) ⊎ (FindsExterns t (section_entries r.tail) None
     ⊎ ((sorted : List model.Extern) × HasExterns t r sorted × (2 ^ 32 ≤ total sorted)))
 
 -- The DATASEC with its externs in order, or none if it stays as it is.
@@ -90,7 +90,7 @@ HasDataSecOf t id section =
 -- A DATASEC is in place of the record of an id, and its variables are Global.
 abbrev pub PutsSection : ℕ → Record → Table → Table → Type 0
 PutsSection id section old new =
-    new ≡ with_record (with_globals (map (λ (e : Entry). e.type) (entries section.tail)) old) id section
+    new ≡ with_record (with_globals (map (λ (e : Entry). e.type) (section_entries section.tail)) old) id section
 
 -- the entries of these externs, one after another, and their total size
 abbrev pub AreLaidOut : List Extern → List DataSecEntry → ℕ → Type 0

@@ -11,7 +11,7 @@ use Rattle.btf_model.specs.Refusal.{Refusal}
 use Rattle.btf_model.specs.Table.{Table}
 use Rattle.btf_model.proofs.Comparisons.{one_id}
 use Rattle.btf_model.proofs.Texts.{name_has_one}
-use Rattle.btf_rewrite_model.specs.Made.{Entry, entries, record_at, kind_at}
+use Rattle.btf_rewrite_model.specs.Made.{Entry, section_entries, record_at, kind_at}
 use Rattle.btf_rewrite_model.specs.Pass.{Layout}
 use Rattle.btf_object_model.specs.Finalized.{kconfig_name, IsFinalized}
 use Rattle.btf_object_model.specs.Kconfig.{ConfigValue, Extern, config_text, extern_name, extern_of, total, with_externs, FindsText, FindsPlain, FindsResolved, FindsValue, FindsExternBy, FindsExtern, FindsExterns, LaysOut, ConfiguresIf, ConfiguresAt, IsConfigured}
@@ -98,7 +98,7 @@ one_layout t id (Some xs) a b x y =
 one_layout t id None a b x y = x ∙ sym y
 
 one_by_size : (empty : Bool) (t : Table) (id : ℕ) (a b : Table) → ConfiguresIf empty t id a → ConfiguresIf empty t id b → a ≡ b
-one_by_size true t id a b x y = one_layout t id x.0 a b x.2 (subst (λ (l : Option (List Extern)). LaysOut t id l b) (one_list t (entries (record_at t id).tail) y.0 x.0 y.1 x.1) y.2)
+one_by_size true t id a b x y = one_layout t id x.0 a b x.2 (subst (λ (l : Option (List Extern)). LaysOut t id l b) (one_list t (section_entries (record_at t id).tail) y.0 x.0 y.1 x.1) y.2)
 one_by_size false t id a b x y = x ∙ sym y
 
 one_at : (t : Table) (found : Result ℕ Refusal) (a b : Table) → ConfiguresAt t found a → ConfiguresAt t found b → a ≡ b

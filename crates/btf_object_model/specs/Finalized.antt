@@ -16,7 +16,7 @@ use Rattle.btf_model.specs.Table.{Table, type_bytes, with_string, with_type}
 use Rattle.btf_model.specs.Text.{text_at}
 use Rattle.btf_rewrite_model.specs.Checks.{in_a_word, first_fault, has_room, fits, record_len}
 use Rattle.btf_rewrite_model.specs.Ksyms.{appends_int, int_of_4, int_text, is_func, ksyms_entries, placeholder_checks}
-use Rattle.btf_rewrite_model.specs.Made.{Entry, entries, record_at, kind_at, table_ids, is_static, c_int, struct, made_data_sec}
+use Rattle.btf_rewrite_model.specs.Made.{Entry, section_entries, record_at, kind_at, table_ids, is_static, c_int, struct, made_data_sec}
 use Rattle.btf_rewrite_model.specs.Pass.{Layout}
 use Rattle.btf_rewrite_model.specs.declared.ksyms_ids.KsymsIds.{KsymsIds}
 use Rattle.btf_object_model.specs.Ksyms.{ksyms_name}
@@ -72,7 +72,7 @@ entry_at_offset layout t e = record e { offset = unwrap_or (entry_offset layout 
 abbrev pub is_completed : Layout → Table → Record → Bool
 is_completed layout t r =
     (r.third == 0) && is_some (known_section_size layout (text_at t.strings r.name))
-    && list_all (λ e. is_some (entry_offset layout t e)) (entries r.tail)
+    && list_all (λ e. is_some (entry_offset layout t e)) (section_entries r.tail)
 
 -- the size of a DATASEC: the size of its section if it is completed, else its own size
 abbrev pub completed_size : Layout → Table → Record → ℕ
@@ -82,7 +82,7 @@ completed_size layout t r =
 -- the entries of a DATASEC: at the offsets of their variables if it is completed, else unchanged
 abbrev pub final_entries : Layout → Table → Record → List Entry
 final_entries layout t r =
-    if is_completed layout t r then map (entry_at_offset layout t) (entries r.tail) else entries r.tail
+    if is_completed layout t r then map (entry_at_offset layout t) (section_entries r.tail) else section_entries r.tail
 
 -- The same entries by rising offset; those with the same offset retain their order. Source: the kernel's
 -- `btf_datasec_check_meta` refuses an entry that begins before the end of the previous one ("Invalid offset").

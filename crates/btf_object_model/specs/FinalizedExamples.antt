@@ -6,7 +6,9 @@ use Rattle.btf_model.specs.Record.{Record}
 use Rattle.btf_model.specs.Table.{Table}
 use Rattle.btf_rewrite_model.specs.Made.{Entry, record_at, c_int, struct, made_data_sec}
 use Rattle.btf_rewrite_model.specs.Pass.{Layout}
-use Rattle.btf_rewrite_model.specs.RewriteExamples.{no_layout, only, named_table, int}
+use Rattle.btf_rewrite_model.specs.RewriteExamples.{only, named_table}
+use Rattle.btf_rewrite_model.specs.Made.{c_int}
+use Rattle.btf_rewrite_model.specs.Pass.{no_layout}
 use Rattle.btf_rewrite_model.specs.declared.ksyms_ids.KsymsIds.{KsymsIds}
 use Rattle.btf_object_model.specs.Finalized.{entry_offset, is_completed, completed_size, final_entries, placeholder, with_placeholder, with_placeholder_id, placeholder_fault, sized_record}
 
@@ -22,7 +24,7 @@ entry type offset size = record { type = type; offset = offset; size = size }
 compiled : List ℕ → Table
 compiled section =
     named_table (codes "int" ∷ codes "count" ∷ codes "last" ∷ section ∷ [])
-    (int 1 ∷ var 5 1 ∷ var 11 0 ∷ made_data_sec 16 0 2 (entry 2 0 4 ∷ entry 3 12 4 ∷ []) ∷ [])
+    (c_int 1 ∷ var 5 1 ∷ var 11 0 ∷ made_data_sec 16 0 2 (entry 2 0 4 ∷ entry 3 12 4 ∷ []) ∷ [])
 
 -- the section of a name has 16 bytes, and `count` is at 8
 layout : List ℕ → Layout
@@ -38,7 +40,7 @@ completed_section = (refl, refl)
 
 -- so does an Extern one
 extern_variable :
-    entry_offset (layout (codes ".bss")) (named_table (codes "int" ∷ codes "count" ∷ []) (int 1 ∷ var 5 2 ∷ []))
+    entry_offset (layout (codes ".bss")) (named_table (codes "int" ∷ codes "count" ∷ []) (c_int 1 ∷ var 5 2 ∷ []))
     (entry 2 12 4) ≡ Some 12
 unfolding layout var entry pieces_from encode
 extern_variable = refl

@@ -15,7 +15,7 @@ use Rattle.btf_model.specs.Refusal.{Refusal}
 use Rattle.btf_model.specs.Table.{Table}
 use Rattle.btf_model.specs.Text.{FindsName, bytes_at}
 use Rattle.btf_model.specs.Walk.{Resolves}
-use Rattle.btf_rewrite_model.specs.Made.{Entry, entries, record_at, kind_at, made_data_sec}
+use Rattle.btf_rewrite_model.specs.Made.{Entry, section_entries, record_at, kind_at, made_data_sec}
 use Rattle.btf_object_model.specs.Finalized.{kconfig_name}
 use Rattle.btf_object_model.specs.Layout.{name_limit}
 
@@ -158,7 +158,7 @@ LaysOut t id None new = new ≡ t
 -- a DATASEC of size 0 is laid out, if all its externs are known
 abbrev pub ConfiguresIf : Bool → Table → ℕ → Table → Type 0
 ConfiguresIf true t id new =
-    (xs : Option (List Extern)) × FindsExterns t (entries (record_at t id).tail) xs × LaysOut t id xs new
+    (xs : Option (List Extern)) × FindsExterns t (section_entries (record_at t id).tail) xs × LaysOut t id xs new
 ConfiguresIf false t id new = new ≡ t
 
 -- the same by the result of the search for the DATASEC

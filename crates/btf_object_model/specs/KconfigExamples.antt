@@ -7,7 +7,8 @@ use Rattle.btf_model.specs.Record as kinds
 use Rattle.btf_model.specs.Record.{Record}
 use Rattle.btf_model.specs.Table.{Table}
 use Rattle.btf_rewrite_model.specs.Made.{record_at}
-use Rattle.btf_rewrite_model.specs.RewriteExamples.{named_table, int}
+use Rattle.btf_rewrite_model.specs.RewriteExamples.{named_table}
+use Rattle.btf_rewrite_model.specs.Made.{c_int}
 use Rattle.btf_object_model.specs.Kconfig.{Extern, plain_value, text_value, extern_name, extern_cmp, total, externs_laid_out, with_globals}
 
 -- an INT of this size, without a name
@@ -56,13 +57,13 @@ offsets = (refl, refl)
 with_variable : Table
 with_variable =
     named_table (codes "HZ" ∷ [])
-    (int 0 ∷ record { name = 1; info = 14 * 2 ^ 24; third = 1; tail = 2 ∷ [] } ∷ [])
+    (c_int 0 ∷ record { name = 1; info = 14 * 2 ^ 24; third = 1; tail = 2 ∷ [] } ∷ [])
 
 -- the variable becomes Global, and the INT stays
 globals :
     (record_at (with_globals (2 ∷ []) with_variable) 2
     ≡ record { name = 1; info = 14 * 2 ^ 24; third = 1; tail = 1 ∷ [] })
-    × (record_at (with_globals (1 ∷ []) with_variable) 1 ≡ int 0)
+    × (record_at (with_globals (1 ∷ []) with_variable) 1 ≡ c_int 0)
     × (extern_name with_variable.strings 1 ≡ Some (codes "HZ"))
 unfolding with_variable pieces_from encode
 globals = (refl, refl, refl)

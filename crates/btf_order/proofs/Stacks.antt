@@ -7,9 +7,9 @@ use Rattle.btf_order.specs.declared.frame.Frame.{Frame}
 use Rattle.btf_order.specs.declared.shape.Node.{Node}
 use Rattle.btf_order.specs.Frame.{IsWalkFrame}
 use Rattle.btf_order.specs.Shape.{Refers, use_of}
-use Rattle.btf_order_model.specs.Uses.{Use, Needs, Leads}
+use Rattle.btf_order_model.specs.Uses.{Use, NeedsUse, NeedsThrough}
 use Rattle.btf_order.specs.declared.progress.Progress.{Progress}
-use Rattle.btf_order.specs.Progress.{is_open, NoneOpen, OpensOnly, Closes}
+use Rattle.btf_order.specs.Progress.{is_open, NoneWaits, OpensOnly, Closes}
 use Rattle.std.proofs.lemmas.Option.{none-some, slice_get-get_or}
 use Rattle.btf_model.specs.Record.{unknown as unknown_record}
 use Rattle.btf_plain.specs.declared.error.BtfError.{BtfError}
@@ -21,7 +21,7 @@ use Rattle.btf_order.proofs.Covers.{frame_more, not_behind, true_not_false}
 -- A type of the table goes on to another: it refers to the other at its next index, and needs it.
 pub record GoesTo (records : List Record) (f : Frame) (node : Node) : Type 0 where
   pub refers : Refers (value_types_in records f.node.id) f.node.through_pointer f.next node
-  pub needs : Needs records (use_of f.node) (use_of node)
+  pub needs : NeedsUse records (use_of f.node) (use_of node)
   pub inside : f.node.id < length records
 
 -- a use is of a type of the stack
@@ -81,10 +81,10 @@ module _ (records : List Record) where
       ((frame_more records before after f more waiting.0.0, waiting.0.1), waiting_more before after below top more waiting.1)
 
   -- each type of the stack leads to what the top needs
-  pub leads : (ids : List ℕ) (below : List Frame) (top : Node) (u v : Use) → Waiting ids below top → OnStack below top u → Needs records (use_of top) v → Leads records u v
-  leads ids [] top u v waiting on needs = Leads.directly u v (subst (λ (x : Use). Needs records x v) (sym on) needs)
+  pub leads : (ids : List ℕ) (below : List Frame) (top : Node) (u v : Use) → Waiting ids below top → OnStack below top u → NeedsUse records (use_of top) v → NeedsThrough records u v
+  leads ids [] top u v waiting on needs = NeedsThrough.directly u v (subst (λ (x : Use). NeedsUse records x v) (sym on) needs)
   leads ids (f ∷ below) top u v waiting on needs = elim on [
-    | inl is ↦ subst (λ (x : Use). Leads records x v) (sym is) (Leads.through (use_of f.node) (use_of (first below top)) v waiting.0.1.needs (leads ids below top (use_of (first below top)) v waiting.1 (first_on below top) needs))
+    | inl is ↦ subst (λ (x : Use). NeedsThrough records x v) (sym is) (NeedsThrough.through (use_of f.node) (use_of (first below top)) v waiting.0.1.needs (leads ids below top (use_of (first below top)) v waiting.1 (first_on below top) needs))
     | inr rest ↦ leads ids below top u v waiting.1 rest needs
   ]
 
@@ -98,7 +98,7 @@ module _ (records : List Record) where
   step_error ids below top p e waiting on is = absurd is
 
   -- the walk has no error at its first type
-  pub start_error : (root : ℕ) (p : Progress) (e : BtfError) → root < length records → NoneOpen p → IsVisitError records p (by root false) e → IsOrderError records e
+  pub start_error : (root : ℕ) (p : Progress) (e : BtfError) → root < length records → NoneWaits p → IsVisitError records p (by root false) e → IsOrderError records e
   start_error root p OutOfMemory inside none is = tt
   start_error root p (UnknownBtfType id) inside none (same, unknown) =
       let within : id < length records = subst (λ (i : ℕ). i < length records) (sym same) inside in
@@ -140,7 +140,7 @@ up_open before mid p below rest top next after same node is opened closes u e =
 
 -- no type is open after the last one
 pub none_left : (before mid p : Progress) (below : List Frame) (top : Frame) (after : Node) → mid ≡ before → after ≡ top.node → below ≡ []
-    → ((u : Use) → is_open before u ≡ true → OnStack below top.node u) → Closes mid p (use_of after) → NoneOpen p
+    → ((u : Use) → is_open before u ≡ true → OnStack below top.node u) → Closes mid p (use_of after) → NoneWaits p
 none_left before mid p below top after same node is opened closes = record { closed = λ u. not_behind (is_open p u) (never u) } where
   never : (u : Use) → is_open p u ≡ true → ⊥
   never u e =

@@ -8,7 +8,7 @@ use Rattle.btf_order_model.specs.Order.{IsOrdered}
 use Rattle.btf_order.specs.declared.progress.Mark.TheVariants.{New}
 use Rattle.btf_order.specs.declared.progress.Progress.{Progress}
 use Rattle.btf_order.specs.declared.progress.Walks.{Walks}
-use Rattle.btf_order.specs.Progress.{is_complete_in, is_open_mark, is_open_walk, is_open, NoneOpen, KnowsOrder}
+use Rattle.btf_order.specs.Progress.{is_complete_in, is_open_mark, is_open_walk, is_open, NoneWaits, KnowsOrder}
 use Rattle.btf_order.proofs.Covers.{true_not_false}
 use Rattle.btf_order.proofs.Opening.{by}
 
@@ -28,7 +28,7 @@ none_walked (suc n) zero w closed = closed
 none_walked (suc n) (suc id) w closed = none_walked n id w closed
 
 -- before the first type none is open
-pub none_open : (p : Progress) (n : ℕ) (w : Walks) → w.is_open ≡ false → p.marks.items ≡ replicate n New → p.walks.items ≡ replicate n w → NoneOpen p
+pub none_open : (p : Progress) (n : ℕ) (w : Walks) → w.is_open ≡ false → p.marks.items ≡ replicate n New → p.walks.items ≡ replicate n w → NoneWaits p
 none_open p n w closed marks walks = record { closed = λ u. cases u.type u.behind_pointer } where
   cases : (j : ℕ) (b : Bool) → is_open p (by j b) ≡ false
   cases j true = ap (λ xs. is_open_walk (slice_get xs j)) walks ∙ none_walked n j w closed

@@ -2,7 +2,7 @@
 use Rattle.std.specs.Prelude.{◌≡◌, Bool, true, List, None, Some, slice_get}
 use Rattle.std.specs.List.{Contains}
 use Rattle.btf_model.specs.Record.{Record}
-use Rattle.btf_order_model.specs.Uses.{Use, uses_in, counted, Needs, IsOnLoop, IsUsedAndUnknown}
+use Rattle.btf_order_model.specs.Uses.{Use, uses_in, counted, NeedsUse, IsOnLoop, IsUsedAndUnknown}
 use Rattle.btf_plain.specs.declared.error.BtfError.{BtfError}
 use Rattle.btf_plain.specs.declared.error.BtfError.TheVariants.{UnknownBtfType, MaximumTypeDepthReached, OutOfMemory}
 use Rattle.btf_order.specs.declared.progress.Progress.{Progress}
@@ -30,5 +30,5 @@ IsStepError records p user (UnknownBtfType id) =
     (behind : Bool) × Contains (uses_in records user) (record { type = id; behind_pointer = behind })
     × (slice_get records id ≡ None)
 IsStepError records p user (MaximumTypeDepthReached id) =
-    (u : Use) × Needs records user u × (u.type ≡ id) × (is_open p u ≡ true)
+    (u : Use) × NeedsUse records user u × (u.type ≡ id) × (is_open p u ≡ true)
 IsStepError records p user e = ⊥

@@ -38,7 +38,7 @@ is_open p u =
     if u.behind_pointer then is_open_walk (slice_get p.walks.items u.type) else is_open_mark (slice_get p.marks.items u.type)
 
 -- no type waits for another
-pub record NoneOpen (p : Progress) : Type 0 where
+pub record NoneWaits (p : Progress) : Type 0 where
   pub closed : (u : Use) → is_open p u ≡ false
 
 -- no use is opened but this one

@@ -6,7 +6,7 @@ use Rattle.btf_order.specs.declared.frame.Frame.{Frame}
 use Rattle.btf_order.specs.declared.progress.Progress.{Progress}
 use Rattle.btf_order.specs.declared.run.Step.{Step}
 use Rattle.btf_order.specs.declared.run.Step.TheVariants.{Down, Up}
-use Rattle.btf_order_model.specs.Uses.{Needs}
+use Rattle.btf_order_model.specs.Uses.{NeedsUse}
 use Rattle.btf_order.specs.Progress.{left_over, OpensOnly}
 use Rattle.btf_order.specs.Shape.{Refers, use_of}
 
@@ -15,6 +15,6 @@ abbrev pub WalkStepIs : List Record → Progress → Progress → Frame → Step
 WalkStepIs records before after top (Down node) =
     Refers (value_types_in records top.node.id) top.node.through_pointer top.next node
     × (left_over after + 2 ≤ left_over before)
-    × Needs records (use_of top.node) (use_of node) × OpensOnly before after (use_of node) × (node.id < length records)
+    × NeedsUse records (use_of top.node) (use_of node) × OpensOnly before after (use_of node) × (node.id < length records)
 WalkStepIs records before after top Up =
     (length (value_types_in records top.node.id) ≤ top.next) × (left_over after ≤ left_over before) × (after ≡ before)

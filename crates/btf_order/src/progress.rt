@@ -7,7 +7,7 @@ ghost use Rattle.btf_plain.specs.declared.error.BtfError.TheVariants.{MaximumTyp
 ghost use Rattle.btf_order.specs.Errors.{IsVisitError};
 ghost use Rattle.btf_order.specs.Shape.{use_of};
 ghost use Rattle.btf_order.specs.Frame.{IsWalkFrame, IsCovered, LinkIs, is_done};
-ghost use Rattle.btf_order.specs.Progress.{KnowsOrder, NoneOpen, Grows, Closes, IsListed, HasLeft, LeavesWalks, VisitIs, IsMarked, IsBehind, is_complete_in, is_open_mark, is_open_walk, left_over};
+ghost use Rattle.btf_order.specs.Progress.{KnowsOrder, NoneWaits, Grows, Closes, IsListed, HasLeft, LeavesWalks, VisitIs, IsMarked, IsBehind, is_complete_in, is_open_mark, is_open_walk, left_over};
 
 use crate::frame::{Frame, Link};
 use crate::shape::{Node, Passing, is_listed, passing_of, shape_of};
@@ -65,7 +65,7 @@ impl Progress {
     pub fn new(table: &Btf, referenced: Vec<bool>) -> Result<Self, BtfError>
         requires { length referenced.items ≡ length table.now.records }
         ensures knows { IfOk result (λ p. KnowsOrder table.now.records p) }
-        ensures none_open { IfOk result (λ p. NoneOpen p) }
+        ensures none_open { IfOk result (λ p. NoneWaits p) }
         ensures error { IfErr result (λ e. e ≡ OutOfMemory) }
     {
         let alloc = allocator_of(table);

@@ -6,7 +6,7 @@ ghost use Rattle.std.specs.Prelude.{◌≡◌, ◌<◌, true, length, OnOk, IfOk
 ghost use Rattle.btf_order.specs.Errors.{IsOrderError, IsStepError};
 ghost use Rattle.btf_order.specs.Shape.{use_of};
 ghost use Rattle.btf_order.specs.Frame.{IsWalkFrame};
-ghost use Rattle.btf_order.specs.Progress.{KnowsOrder, Grows, NoneOpen, is_complete_in};
+ghost use Rattle.btf_order.specs.Progress.{KnowsOrder, Grows, NoneWaits, is_complete_in};
 ghost use Rattle.btf_order.specs.Run.{WalkStepIs};
 
 use crate::frame::Frame;
@@ -28,10 +28,10 @@ enum Step {
 pub fn run(table: &Btf, root: u32, progress: &mut Progress) -> Result<(), BtfError>
     requires knows { KnowsOrder table.now.records progress.old }
     requires root { root < length table.now.records }
-    requires none_open { NoneOpen progress.old }
+    requires none_open { NoneWaits progress.old }
     ensures knows { OnOk result (KnowsOrder table.now.records progress.new) }
     ensures grows { OnOk result (Grows progress.old progress.new) }
-    ensures none_open { OnOk result (NoneOpen progress.new) }
+    ensures none_open { OnOk result (NoneWaits progress.new) }
     ensures error { IfErr result (λ e. IsOrderError table.now.records e) }
     ensures root { OnOk result (is_complete_in progress.new.marks.items root ≡ true) }
 {

@@ -61,21 +61,21 @@ abbrev pub counted : List Record → Use → Option Use
 counted records u = counted_or (slice_get records u.type) u
 
 -- The declaration of the type of use a needs use b.
-pub record Needs (records : List Record) (a b : Use) : Type 0 where
+pub record NeedsUse (records : List Record) (a b : Use) : Type 0 where
   pub direct : Use
   pub used : Contains (uses_in records a) direct
   pub counts : counted records direct ≡ Some b
 
 -- the same through any number of other types
-pub data Leads (records : List Record) : Use → Use → Type 0 where
-  directly : (a b : Use) → Needs records a b → Leads records a b
-  through : (a c b : Use) → Needs records a c → Leads records c b → Leads records a b
+pub data NeedsThrough (records : List Record) : Use → Use → Type 0 where
+  directly : (a b : Use) → NeedsUse records a b → NeedsThrough records a b
+  through : (a c b : Use) → NeedsUse records a c → NeedsThrough records c b → NeedsThrough records a b
 
 -- The type of an id needs itself, where a forward declaration is not enough.
 pub record IsOnLoop (records : List Record) (id : ℕ) : Type 0 where
   pub of_id : Use
   pub here : of_id.type ≡ id
-  pub loop : Leads records of_id of_id
+  pub loop : NeedsThrough records of_id of_id
 
 -- A type of the table uses an id that has no type.
 pub record IsUsedAndUnknown (records : List Record) (id : ℕ) : Type 0 where

@@ -6,7 +6,7 @@ ghost use Rattle.btf_model.specs.Info.{flag_bit};
 ghost use Rattle.btf_model.specs.Record.{vlen, kinds as all_kinds};
 ghost use Rattle.btf_plain.specs.Kind as kinds;
 ghost use Rattle.btf_plain.specs.Third.{third_kept};
-ghost use Rattle.btf_plain.specs.ItemList.{items_of};
+ghost use Rattle.btf_plain.specs.ItemList.{items_of, listing};
 
 use crate::bytes::push_array;
 use crate::error::BtfError;
@@ -113,12 +113,8 @@ where
         requires kind { slice_get all_kinds number ≡ Some (kinds.kind K.KIND) }
         requires few { length (K.Tail.listed tail) ≤ MAX_VLEN }
         requires third { third_kept (kinds.kind K.KIND) third ≡ third }
-        ensures { result ≡ record {
-          name = name;
-          info = number * 2 ^ 24 + length (K.Tail.listed tail) + flag_bit flag;
-          third = third;
-          tail = flat_map K.Tail.Element.item_words (K.Tail.listed tail);
-        } }
+        ensures { result ≡ listing number name flag third K.Tail.Element.item_words
+            (K.Tail.listed tail) }
     {
         let info = number << 24 | tail.items().len() as u32 | flag_word(flag);
         Self::of(name, info, third, tail)

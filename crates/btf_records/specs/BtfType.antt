@@ -1,5 +1,5 @@
 -- The record that a `BtfType` represents, its kind, and its fallback.
-use Rattle.std.specs.Prelude.{Bool, true, false, Option, None}
+use Rattle.std.specs.Prelude.{Bool, true, false, if◌then◌else◌, Option, Some, None}
 use Rattle.btf_model.specs.Record as model
 use Rattle.btf_model.specs.Record.{Kind, Record, unknown}
 use Rattle.btf_model.specs.Table.{Fallback}
@@ -51,6 +51,10 @@ type_kind (Float r) = model.Float
 type_kind (DeclTag r) = model.DeclTag
 type_kind (TypeTag r) = model.TypeTag
 type_kind (Enum64 r) = model.Enum64
+
+-- what a STRUCT or a UNION has; None for the other kinds
+abbrev pub of_composite : {X : Type 0} → BtfType → X → Option X
+of_composite t x = if model.is_composite (type_kind t) then Some x else None
 
 -- ARRAY and FWD do not use the third word
 abbrev pub has_no_third : Kind → Bool

@@ -121,7 +121,7 @@ impl BtfType {
     ghost use Rattle.btf_model.specs.Spelling.{spell, IsWhole};
     ghost use Rattle.btf_plain.specs.Error.{IsOrNoMemory};
     ghost use Rattle.btf_plain.specs.Kind as kinds;
-    ghost use Rattle.btf_records.specs.BtfType.{record_of, fallback_of, type_kind, has_no_third};
+    ghost use Rattle.btf_records.specs.BtfType.{record_of, fallback_of, type_kind, of_composite, has_no_third};
 
     /// The kind of the record, which is the one in its info word.
     pub fn kind(&self) -> BtfKind
@@ -210,25 +210,23 @@ impl BtfType {
     /// The members of a STRUCT or a UNION, in order; None for the other kinds.
     pub fn members(&self) -> Option<Iter<'_, BtfMember>>
         ensures { option_map (λ it. flat_map member_words (iter_rest it)) result
-            ≡ (if model.is_composite (type_kind self.now) then Some (record_of self.now).tail
-            else None) }
+            ≡ of_composite self.now (record_of self.now).tail }
     {
         of_composite!(self, t => t.members().iter())
     }
 
     /// The bit at which a member of this STRUCT or UNION begins; None for the other kinds.
     pub fn member_bit_offset(&self, member: &BtfMember) -> Option<usize>
-        ensures { result ≡ (if model.is_composite (type_kind self.now)
-            then Some (member_bit_offset (record_of self.now).info member.now.offset) else None) }
+        ensures { result ≡ of_composite self.now
+            (member_bit_offset (record_of self.now).info member.now.offset) }
     {
         of_composite!(self, t => t.member_bit_offset(member))
     }
 
     /// The number of bits of a member of this STRUCT or UNION that is a bit-field, else 0; None for the other kinds.
     pub fn member_bit_field_size(&self, member: &BtfMember) -> Option<usize>
-        ensures { result ≡ (if model.is_composite (type_kind self.now)
-            then Some (member_bit_field_size (record_of self.now).info member.now.offset)
-            else None) }
+        ensures { result ≡ of_composite self.now
+            (member_bit_field_size (record_of self.now).info member.now.offset) }
     {
         of_composite!(self, t => t.member_bit_field_size(member))
     }

@@ -11,6 +11,7 @@ ghost use Rattle.btf_plain.specs.Error.{IsOrNoMemory, MeetsOrNoMemory};
 ghost use Rattle.btf_plain.specs.Head.{ReadsTail};
 ghost use Rattle.btf_plain.specs.Fallback.{fallback_of_option};
 ghost use Rattle.btf_plain.specs.Items.{member_words};
+ghost use Rattle.btf_records.specs.Parts.{union_with};
 
 use btf_plain::{
     BtfError, BtfKind, BtfMember, Endianness, Enum64Fallback, Head, ItemList, MAX_VLEN,
@@ -124,10 +125,7 @@ impl Union {
         fallback: Option<Enum64Fallback>,
     ) -> Self
         requires { vec_len members ≤ MAX_VLEN }
-        ensures { result ≡ record {
-          words = union name_offset size (vec_len members) (flat_map member_words members.items);
-          fallback = fallback_of_option fallback;
-        } }
+        ensures { result ≡ union_with name_offset size (vec_len members) members.items fallback }
     {
         let head = Head {
             name: name_offset,

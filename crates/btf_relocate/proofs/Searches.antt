@@ -18,7 +18,7 @@ use Rattle.btf_relocate.specs.declared.search.Found.{Found}
 use Rattle.btf_relocate.specs.declared.search.Found.TheVariants as code
 use Rattle.btf_relocate.specs.Gives.{Gives, GivesBy}
 use Rattle.btf_relocate.specs.Members.{member_of}
-use Rattle.btf_relocate.specs.Searching.{found_of, outward, or_later, among, without_room, within, from_id, InVain, Remembers}
+use Rattle.btf_relocate.specs.Searching.{found_of, outward, or_later, among, found_without_room, within, from_id, InVain, Remembers}
 use Rattle.std.specs.BTreeMap.{BTreeMap, get, Updates, is_at}
 use Rattle.std.specs.Ordering.{nat_cmp}
 use Rattle.std.proofs.lemmas.Bool.{cases_eq}
@@ -29,7 +29,7 @@ module _ (t : Table) (name : List ℕ) where
   unfolding within
   within_suc room r = refl
 
-  within_zero : (r : Record) → within zero t name r ≡ without_room (members_of r)
+  within_zero : (r : Record) → within zero t name r ≡ found_without_room (members_of r)
   unfolding within
   within_zero r = refl
 
@@ -76,7 +76,7 @@ module _ (t : Table) (name : List ℕ) where
             ]
       ]
 
-  no_room_plain : (ms : List Member) → seen (without_room ms) ≡ model.without_room ms
+  no_room_plain : (ms : List Member) → seen (found_without_room ms) ≡ model.without_room ms
   no_room_plain [] = refl
   no_room_plain (m ∷ ms) = refl
 
@@ -198,17 +198,17 @@ module _ (t : Table) (name : List ℕ) where
         | Err x ↦ λ is. absurd (cc)
       ]
 
-  without_levels : (ms : List Member) (h : ℕ) → without_room ms ≡ Ok (code.Nothing h) → (ms ≡ []) × (0 ≡ h)
+  without_levels : (ms : List Member) (h : ℕ) → found_without_room ms ≡ Ok (code.Nothing h) → (ms ≡ []) × (0 ≡ h)
   without_levels [] h is = (refl, cc)
   without_levels (m ∷ ms) h is = absurd (cc)
 
   no_members : (r : Record) (h : ℕ) → members_of r ≡ [] → 0 ≡ h → InVain t name r h
-  no_members r h none is zero = (λ low. within_zero r ∙ ap without_room none ∙ ap (λ (n : ℕ). Ok (code.Nothing n)) is, λ high. absurd (omega (arith, is, high)))
+  no_members r h none is zero = (λ low. within_zero r ∙ ap found_without_room none ∙ ap (λ (n : ℕ). Ok (code.Nothing n)) is, λ high. absurd (omega (arith, is, high)))
   no_members r h none is (suc e) =
       (λ low. within_suc e r ∙ ap (among (from_id e t name) t name r.info 0) none ∙ ap (λ (n : ℕ). Ok (code.Nothing n)) is, λ high. absurd (omega (arith, is, high)))
 
   no_room_at : (inside : ℕ → Result Found RelocationError) (info h : ℕ) (ms : List Member) → among inside t name info 0 ms ≡ Ok (code.Nothing h)
-      → (h ≤ 0 → without_room ms ≡ Ok (code.Nothing h)) × (0 < h → without_room ms ≡ Err TooDeep)
+      → (h ≤ 0 → found_without_room ms ≡ Ok (code.Nothing h)) × (0 < h → found_without_room ms ≡ Err TooDeep)
   no_room_at inside info h [] is = let all : 0 ≡ h = cc in (λ low. ap (λ (n : ℕ). Ok (code.Nothing n)) all, λ high. absurd (omega (arith, all, high)))
   no_room_at inside info h (m ∷ ms) is =
       let least : max 0 1 ≤ h = grows_cons inside info 0 h m ms (λ l. grows inside info l h ms) is in
@@ -218,7 +218,7 @@ module _ (t : Table) (name : List ℕ) where
   pub in_vain : (room : ℕ) (r : Record) (h : ℕ) → within room t name r ≡ Ok (code.Nothing h) → InVain t name r h
   in_vain zero r h is e = let none : (members_of r ≡ []) × (0 ≡ h) = without_levels (members_of r) h (sym (within_zero r) ∙ is) in no_members r h none.0 none.1 e
   in_vain (suc d) r h is zero =
-      let both : (h ≤ 0 → without_room (members_of r) ≡ Ok (code.Nothing h)) × (0 < h → without_room (members_of r) ≡ Err TooDeep) =
+      let both : (h ≤ 0 → found_without_room (members_of r) ≡ Ok (code.Nothing h)) × (0 < h → found_without_room (members_of r) ≡ Err TooDeep) =
       no_room_at (from_id d t name) r.info h (members_of r) (sym (within_suc d r) ∙ is) in
       (λ low. within_zero r ∙ both.0 low, λ high. within_zero r ∙ both.1 high)
   in_vain (suc d) r h is (suc e) =
@@ -236,7 +236,7 @@ module _ (t : Table) (name : List ℕ) where
       rw (one, same) (sym (within_suc d r))
 
   empty : (depth : ℕ) (r : Record) → members_of r ≡ [] → within depth t name r ≡ Ok (code.Nothing 0)
-  empty zero r none = within_zero r ∙ ap without_room none
+  empty zero r none = within_zero r ∙ ap found_without_room none
   empty (suc d) r none = within_suc d r ∙ ap (among (from_id d t name) t name r.info 0) none
 
   pub empty_slice : (depth : ℕ) (r : Record) (ms : List BtfMember) (b : Bool) → b ≡ (length ms == 0) → b ≡ true → map member_of ms ≡ members_of r → within depth t name r ≡ Ok (code.Nothing 0)
@@ -245,7 +245,7 @@ module _ (t : Table) (name : List ℕ) where
 
   pub full_slice : (depth : ℕ) (r : Record) (ms : List BtfMember) (b : Bool) → b ≡ (length ms == 0) → b ≡ false → depth ≡ 0 → map member_of ms ≡ members_of r → within depth t name r ≡ Err TooDeep
   full_slice depth r [] b is not_so at same = absurd (grind (arith, nat_tests))
-  full_slice zero r (m ∷ ms) b is not_so at same = within_zero r ∙ ap without_room (sym same)
+  full_slice zero r (m ∷ ms) b is not_so at same = within_zero r ∙ ap found_without_room (sym same)
   full_slice (suc d) r (m ∷ ms) b is not_so at same = absurd (omega (arith, at))
 
   -- one member: it has no name, it is the one, or it has another name

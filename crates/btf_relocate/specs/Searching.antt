@@ -48,13 +48,13 @@ among inside t name info levels (m ∷ ms) =
     else among inside t name info (max levels 1) ms)
 
 -- no member may be looked at
-abbrev pub without_room : List Member → Result Found RelocationError
-without_room [] = Ok (code.Nothing 0)
-without_room ms = Err TooDeep
+abbrev pub found_without_room : List Member → Result Found RelocationError
+found_without_room [] = Ok (code.Nothing 0)
+found_without_room ms = Err TooDeep
 
 -- the search in a type
 unfoldable pub within : ℕ → Table → List ℕ → Record → Result Found RelocationError
-within zero t name r = without_room (members_of r)
+within zero t name r = found_without_room (members_of r)
 within (suc room) t name r =
     among (λ id. resolved_record t id >>= within room t name) t name r.info 0 (members_of r)
 

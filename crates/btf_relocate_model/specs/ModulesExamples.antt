@@ -6,6 +6,7 @@ use Rattle.std.specs.Prelude.{◌≡◌, ℕ, ◌+◌, ◌*◌, ◌^◌, true, L
 use Rattle.btf_model.specs.Record.{Record, unknown}
 use Rattle.btf_model.specs.Table.{Table}
 use Rattle.btf_model.specs.declared.endianness.Endianness.TheVariants.{Little}
+use Rattle.btf_relocate_model.specs.SectionExamples.{load}
 use Rattle.btf_relocate_model.specs.Compatible.{compatible_within}
 use Rattle.btf_relocate_model.specs.Modules.{InKernel, InModules, candidates_among, relocated_section_among}
 use Rattle.btf_relocate_model.specs.Search.{search}
@@ -51,10 +52,6 @@ alone = table (structure 1 (7 ∷ 1 ∷ 0 ∷ []))
 
 without : Table
 without = table []
-
--- a load of 4 bytes at an offset
-abbrev load : ℕ → List ℕ
-load offset = 0x61 ∷ 0x12 ∷ offset ∷ 0 ∷ 0 ∷ 0 ∷ 0 ∷ 0 ∷ []
 
 -- the outcome of the load of `b`, and the code after it
 abbrev loaded : Table → List Table → List (Result Patched RelocationError) × List ℕ

@@ -62,7 +62,7 @@ own : TablePair
 own = record neither { target = table local_texts (int ∷ structure 5 2 (7 ∷ 1 ∷ 0 ∷ 9 ∷ 1 ∷ 32 ∷ []) ∷ []) }
 
 -- a load of 4 bytes at an offset
-abbrev load : ℕ → List ℕ
+abbrev pub load : ℕ → List ℕ
 load offset = 0x61 ∷ 0x12 ∷ offset ∷ 0 ∷ 0 ∷ 0 ∷ 0 ∷ 0 ∷ []
 
 -- the records of the offsets of `b` and of `a`, whose instruction is at a place

@@ -13,7 +13,7 @@ use Rattle.btf_rewrite_model.specs.declared.feature.BtfFeature.TheVariants as fe
 use Rattle.btf_rewrite_model.specs.Feature.{grants, same_feature, is_global, is_signed, has_no_entries, fills_sized, is_sized_and_empty}
 use Rattle.btf_rewrite_model.specs.declared.feature.BtfFeature.{BtfFeature}
 use Rattle.btf_rewrite_model.specs.declared.feature.FeatureAnswer.{FeatureAnswer}
-use Rattle.btf_rewrite_model.specs.Made.{entries, variants, record_at, kind_at, byte_int, static_var, const, typedef, struct, union, enum, made_data_sec, with_linkage, unsigned}
+use Rattle.btf_rewrite_model.specs.Made.{section_entries, variants, record_at, kind_at, byte_int, static_var, const, typedef, struct, union, enum, made_data_sec, with_linkage, unsigned}
 use Rattle.btf_rewrite_model.specs.Checks.{Check, first_fault, name_is_read, has_room, have_room, fits, record_len}
 use Rattle.btf_model.specs.Table.{type_bytes}
 use Rattle.btf_rewrite_model.specs.Pass.{Pass, has, name_of, name_checks, least, passing_or, is_least, renaming, section_size, is_unsized, is_zero_or, is_positive, fills_sized_one, fills_unsized, gets_filler, sized_asks_zero, unsized_asks_zero, makes_filler, wants_member_type, makes_member_type, param_texts, filler, filler_type_text, filler_text, member_type_text, texts, texts_by, texts_below, texts_len, offset_at, filler_offset, added_by, added_below, with_added, free_id, added, growth_below, type_len_at, func_asks, asks_by, asks, asks_below, is_builtin, is_enum64}
@@ -289,8 +289,8 @@ section_made p lower id granted filled name at =
     let r : Record = record_at p.table id in
     let size : ℕ = unwrap_or (section_size p id) 0 in
     let filling : ℕ → Record = λ n. made_data_sec name n 1 (record { type = at; offset = 0; size = n } ∷ []) in
-    if granted then (if r.third == 0 then (if filled then filling (max size 1) else made_data_sec name size (vlen r.info) (map (placed p) (entries r.tail))) else (if filled then filling r.third else record r { name = name }))
-    else struct name (vlen r.info) (vlen r.info) (entry_members p lower id (entries r.tail))
+    if granted then (if r.third == 0 then (if filled then filling (max size 1) else made_data_sec name size (vlen r.info) (map (placed p) (section_entries r.tail))) else (if filled then filling r.third else record r { name = name }))
+    else struct name (vlen r.info) (vlen r.info) (entry_members p lower id (section_entries r.tail))
 
 section_same : (p : Pass) (answers : List FeatureAnswer) (lower : List Record) (id : ℕ) → kind_at p.table id ≡ Some kinds.DataSec → Same p answers id
     → becomes_by (with_answers p answers) lower id (Some kinds.DataSec) (record_at p.table id) ≡ becomes_by p lower id (Some kinds.DataSec) (record_at p.table id)
@@ -424,7 +424,7 @@ sizing_by p id makes gets offset used records =
     let making : List Check =
     if makes then has_room offset filler_type_text ∷ fits used (record_len (byte_int 0)) ∷ has_room (offset + length filler_type_text + 1) filler_text ∷ fits (used + record_len (byte_int 0)) (record_len (static_var 0 0)) ∷ [] else [] in
     let growing : List Check = if gets then fits (used + sum_by record_len records) 12 ∷ [] else [] in
-    if r.third == 0 then is_sized (section_size p id) (name_of p id) ∷ making ++ flat_map (entry_checks p) (entries r.tail) ++ growing else making ++ growing
+    if r.third == 0 then is_sized (section_size p id) (name_of p id) ∷ making ++ flat_map (entry_checks p) (section_entries r.tail) ++ growing else making ++ growing
 
 fillers_to : (p : Pass) (answers : List FeatureAnswer) (id : ℕ) → Agree p answers (suc id) → AreRuled p id → (kind_at p.table id ≡ Some kinds.DataSec → IsNamed p id) → (j : ℕ) → j ≤ id → gets_filler (with_answers p answers) j ≡ gets_filler p j
 fillers_to p answers id agree ruled named j le =
@@ -436,7 +436,7 @@ fillers_to p answers id agree ruled named j le =
 
 -- the tests of a DATASEC after those of its name
 abbrev section_rest : Pass → ℕ → List Check
-section_rest p id = if has p features.DataSec then (if (record_at p.table id).third == 0 then completing_checks p id (record_at p.table id) else filling_checks p id) else flat_map (member_checks p) (entries (record_at p.table id).tail)
+section_rest p id = if has p features.DataSec then (if (record_at p.table id).third == 0 then completing_checks p id (record_at p.table id) else filling_checks p id) else flat_map (member_checks p) (section_entries (record_at p.table id).tail)
 
 section_rest_same : (p : Pass) (answers : List FeatureAnswer) (id : ℕ) → kind_at p.table id ≡ Some kinds.DataSec → Agree p answers (suc id) → AreRuled p id → IsNamed p id
     → section_rest (with_answers p answers) id ≡ section_rest p id
@@ -459,8 +459,8 @@ section_rest_same p answers id kind agree ruled named =
     ∙ ap (λ (o : ℕ). sizing_by p id (makes_filler p id) (gets_filler p id) o (type_len_at q id) (added q id)) offset
     ∙ ap (λ (n : ℕ). sizing_by p id (makes_filler p id) (gets_filler p id) (filler_offset p id) n (added q id)) used
     ∙ ap (λ (rs : List Record). sizing_by p id (makes_filler p id) (gets_filler p id) (filler_offset p id) (type_len_at p id) rs) records in
-    ap (λ (cs : List Check). if grants answers features.DataSec then cs else flat_map (member_checks p) (entries r.tail)) same
-    ∙ ap (λ (b : Bool). if b then (if r.third == 0 then completing_checks p id r else filling_checks p id) else flat_map (member_checks p) (entries r.tail)) granted
+    ap (λ (cs : List Check). if grants answers features.DataSec then cs else flat_map (member_checks p) (section_entries r.tail)) same
+    ∙ ap (λ (b : Bool). if b then (if r.third == 0 then completing_checks p id r else filling_checks p id) else flat_map (member_checks p) (section_entries r.tail)) granted
 
 section_fault_same : (p : Pass) (answers : List FeatureAnswer) (id : ℕ) → kind_at p.table id ≡ Some kinds.DataSec → Agree p answers (suc id) → AreRuled p id
     → first_fault (name_checks (with_answers p answers) id ++ section_rest (with_answers p answers) id) ≡ first_fault (name_checks p id ++ section_rest p id)

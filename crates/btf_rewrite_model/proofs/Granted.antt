@@ -12,7 +12,7 @@ use Rattle.btf_rewrite_model.specs.declared.feature.BtfFeature.TheVariants as fe
 use Rattle.btf_rewrite_model.specs.Feature.{feature_number, same_feature, grants, needs, needs_by, is_sized_and_empty, fills_sized, is_global, is_signed, has_no_entries}
 use Rattle.btf_rewrite_model.specs.declared.feature.BtfFeature.{BtfFeature}
 use Rattle.btf_rewrite_model.specs.declared.feature.FeatureAnswer.{FeatureAnswer}
-use Rattle.btf_rewrite_model.specs.Made.{Entry, entries, record_at, kind_at, struct, union, enum, made_data_sec, with_linkage, unsigned}
+use Rattle.btf_rewrite_model.specs.Made.{Entry, section_entries, record_at, kind_at, struct, union, enum, made_data_sec, with_linkage, unsigned}
 use Rattle.btf_rewrite_model.specs.Checks.{Check, first_fault, name_is_read}
 use Rattle.btf_rewrite_model.specs.Pass.{Pass, has, name_of, name_checks, is_builtin, gets_filler, section_size, is_unsized, is_zero_or, fills_sized_one, fills_unsized}
 use Rattle.btf_rewrite_model.specs.Rule.{becomes, becomes_by, ruled_below, known_func, completed, sized, filled, new_name, placed}
@@ -248,7 +248,7 @@ completed_granted p id is_exempt f size kind granted unsized known is =
     let is_u : is_unsized (kind_at p.table id) r ≡ true = ap (λ (k : Option Kind). is_unsized k r) kind ∙ unsized in
     either (Needs is_exempt f) (has p f ≡ true) (gets_filler p id) _ _
     (λ is_filled n. filled_granted p is_exempt f id (max size 1) r granted n)
-    (λ not_filled n. laid_granted p is_exempt f (new_name p id r) size (vlen r.info) (map (placed p) (entries r.tail)) granted (vlen_small r.info)
+    (λ not_filled n. laid_granted p is_exempt f (new_name p id r) size (vlen r.info) (map (placed p) (section_entries r.tail)) granted (vlen_small r.info)
     (unfilled (has p features.DataSec) (fills_sized_one p id) (is_unsized (kind_at p.table id) r) (has_no_entries r) (has p features.DataSecZero) known.0 granted is_u
     (subst (λ (o : Option ℕ). (has p features.DataSec && (fills_sized_one p id || (is_unsized (kind_at p.table id) r && has_no_entries r && is_zero_or (not (has p features.DataSecZero)) o))) ≡ false) known.1 not_filled)) n)
     is

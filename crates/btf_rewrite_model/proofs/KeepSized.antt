@@ -11,7 +11,7 @@ use Rattle.btf_rewrite_model.specs.declared.feature.BtfFeature.TheVariants as fe
 use Rattle.btf_rewrite_model.specs.Feature.{fills_sized, is_sized_and_empty, has_no_entries}
 use Rattle.btf_rewrite_model.specs.declared.feature.FillPolicy.{FillPolicy}
 use Rattle.btf_rewrite_model.specs.declared.feature.FillPolicy.TheVariants.{KeepSized}
-use Rattle.btf_rewrite_model.specs.Made.{record_at, kind_at, entries, struct}
+use Rattle.btf_rewrite_model.specs.Made.{record_at, kind_at, section_entries, struct}
 use Rattle.btf_rewrite_model.specs.Checks.{Check, first_fault, fits, record_len}
 use Rattle.btf_rewrite_model.specs.Pass.{Pass, has, name_checks, fills_unsized, gets_filler, is_unsized, is_zero_or, section_size, least, added, type_len_at, unsized_asks_zero, data_sec_asks}
 use Rattle.btf_rewrite_model.specs.Rule.{becomes, becomes_by, ruled_below, completed, sized, filled, new_name, entry_members}
@@ -43,7 +43,7 @@ module _ (p : Pass) (id : ℕ) (keeps : p.policy ≡ KeepSized) where
         let r : Record = record_at p.table id in
         let lower : List Record = ruled_below p id in
         ap (λ (k : Option Kind). becomes_by p lower id k r) kind
-        ∙ ap (λ (b : Bool). if b then (if r.third == 0 then completed p id (unwrap_or (section_size p id) 0) r else sized p id r) else struct (new_name p id r) (vlen r.info) (vlen r.info) (entry_members p lower id (entries r.tail))) granted
+        ∙ ap (λ (b : Bool). if b then (if r.third == 0 then completed p id (unwrap_or (section_size p id) 0) r else sized p id r) else struct (new_name p id r) (vlen r.info) (vlen r.info) (entry_members p lower id (section_entries r.tail))) granted
         ∙ ap (λ (b : Bool). if b then completed p id (unwrap_or (section_size p id) 0) r else sized p id r) is_sized
         ∙ ap (λ (b : Bool). if b then filled p id r.third r else record r { name = new_name p id r }) no_filler
 
@@ -54,7 +54,7 @@ module _ (p : Pass) (id : ℕ) (keeps : p.policy ≡ KeepSized) where
         ap (λ (b : Bool). (if b && (least (gets_filler p) id == id) then filler_checks p id else []) ++ growth_checks p id) no_filler
         ∙ ap (λ (b : Bool). if b then fits (type_len_at p id + sum_by record_len (added p id)) 12 ∷ [] else []) no_filler in
         ap (λ (k : Option Kind). first_fault (checks_by p id k r)) kind
-        ∙ ap (λ (b : Bool). first_fault (name_checks p id ++ (if b then (if r.third == 0 then completing_checks p id r else filling_checks p id) else flat_map (member_checks p) (entries r.tail)))) granted
+        ∙ ap (λ (b : Bool). first_fault (name_checks p id ++ (if b then (if r.third == 0 then completing_checks p id r else filling_checks p id) else flat_map (member_checks p) (section_entries r.tail)))) granted
         ∙ ap (λ (b : Bool). first_fault (name_checks p id ++ (if b then completing_checks p id r else filling_checks p id))) is_sized
         ∙ ap (λ (cs : List Check). first_fault (name_checks p id ++ cs)) none_tested ∙ ap first_fault (append-nil (name_checks p id))
 

@@ -15,7 +15,7 @@ use Rattle.btf_rewrite_model.specs.declared.feature.BtfFeature.TheVariants as fe
 use Rattle.btf_rewrite_model.specs.Feature.{is_signed}
 use Rattle.btf_rewrite_model.specs.declared.feature.FeatureAnswer.{FeatureAnswer}
 use Rattle.btf_rewrite_model.specs.declared.feature.FillPolicy.{FillPolicy}
-use Rattle.btf_rewrite_model.specs.Made.{entries, variants, record_at, kind_at, table_ids, byte_int, const, struct, union, enum, made_data_sec, unsigned, c_int}
+use Rattle.btf_rewrite_model.specs.Made.{section_entries, variants, record_at, kind_at, table_ids, byte_int, const, struct, union, enum, made_data_sec, unsigned, c_int}
 use Rattle.btf_rewrite_model.specs.Ksyms.{stepped, each_stepped, appends_int}
 use Rattle.btf_rewrite_model.specs.declared.ksyms_ids.KsymsIds.{KsymsIds}
 use Rattle.btf_rewrite_model.specs.Pass.{Pass, Layout, has, gets_filler, section_size, offset_at}
@@ -67,8 +67,8 @@ section_unmodified : (p : Pass) (lower : List Record) (id : ℕ) (r : Record) �
 section_unmodified p lower id r kind =
     let size : ℕ = unwrap_or (section_size p id) 0 in
     let with_filler : (n : ℕ) → modified_type (filled p id n r) ≡ None = λ n. no_modifier (filled p id n r) 15 1 kinds.DataSec refl (omega arith) (omega arith) refl refl in
-    let laid : Record = made_data_sec (new_name p id r) size (vlen r.info) (map (placed p) (entries r.tail)) in
-    let made : Record = struct (new_name p id r) (vlen r.info) (vlen r.info) (entry_members p lower id (entries r.tail)) in
+    let laid : Record = made_data_sec (new_name p id r) size (vlen r.info) (map (placed p) (section_entries r.tail)) in
+    let made : Record = struct (new_name p id r) (vlen r.info) (vlen r.info) (entry_members p lower id (section_entries r.tail)) in
     by_both (λ q. modified_type q ≡ None) (has p features.DataSec) (if r.third == 0 then completed p id size r else sized p id r) made
     (by_both (λ q. modified_type q ≡ None) (r.third == 0) (completed p id size r) (sized p id r)
     (by_both (λ q. modified_type q ≡ None) (gets_filler p id) (filled p id (max size 1) r) laid (with_filler (max size 1)) (no_modifier laid 15 (vlen r.info) kinds.DataSec refl (omega arith) (vlen_small r.info) refl refl))

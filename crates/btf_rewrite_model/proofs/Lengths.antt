@@ -12,7 +12,7 @@ use Rattle.btf_model.specs.Refusal.{Refusal}
 use Rattle.btf_model.specs.Spelling.{HasKind}
 use Rattle.btf_rewrite_model.specs.declared.feature.BtfFeature.TheVariants as features
 use Rattle.btf_rewrite_model.specs.Feature.{fills_sized, is_global, is_signed, has_no_entries, is_sized_and_empty}
-use Rattle.btf_rewrite_model.specs.Made.{Entry, entries, entry_words, variants, record_at, kind_at, wants_name, byte_int, const, typedef, struct, union, enum, made_data_sec, with_linkage, unsigned}
+use Rattle.btf_rewrite_model.specs.Made.{Entry, section_entries, entry_words, variants, record_at, kind_at, wants_name, byte_int, const, typedef, struct, union, enum, made_data_sec, with_linkage, unsigned}
 use Rattle.btf_rewrite_model.specs.Checks.{record_len}
 use Rattle.btf_rewrite_model.specs.Pass.{Pass, has, name_of, is_builtin, gets_filler, section_size, is_unsized, is_zero_or, param_text, offset_at}
 use Rattle.btf_rewrite_model.specs.Rule as rule
@@ -28,14 +28,14 @@ named_len k offset (name ∷ type ∷ words) =
     [ true ↦ ap (λ (n : ℕ). suc (suc n)) (named_len (k + 1) (offset + length (param_text k) + 1) words) | false ↦ ap (λ (n : ℕ). suc (suc n)) (named_len (k + 1) offset words) ]
 
 -- three words for each item
-pub entries_len : (f : Entry → List ℕ) → ((e : Entry) → length (f e) ≡ 3) → (n : ℕ) (words : List ℕ) → length words ≡ 3 * n → length (flat_map f (entries words)) ≡ length words
+pub entries_len : (f : Entry → List ℕ) → ((e : Entry) → length (f e) ≡ 3) → (n : ℕ) (words : List ℕ) → length words ≡ 3 * n → length (flat_map f (section_entries words)) ≡ length words
 entries_len f three n [] is = refl
 entries_len f three n (a ∷ []) is = absurd (omega (arith, is))
 entries_len f three n (a ∷ b ∷ []) is = absurd (omega (arith, is))
 entries_len f three zero (a ∷ b ∷ c ∷ words) is = absurd (omega (arith, is))
 entries_len f three (suc n) (a ∷ b ∷ c ∷ words) is =
     let e : Entry = record { type = a; offset = b; size = c } in
-    omega (arith, length-append (f e) (flat_map f (entries words)), three e, entries_len f three n words (omega (arith, is)))
+    omega (arith, length-append (f e) (flat_map f (section_entries words)), three e, entries_len f three n words (omega (arith, is)))
 
 pub members_len : (type n : ℕ) (words : List ℕ) → length words ≡ 3 * n → length (variant_members type (variants words)) ≡ length words
 members_len type n [] is = refl
@@ -61,15 +61,15 @@ known_len p r (Err refusal) = refl
 -- a DATASEC that gets no filler
 laid_len : (p : Pass) (id size : ℕ) (r : Record) → length r.tail ≡ 3 * vlen r.info → gets_filler p id ≡ false → AsLong r (completed p id size r)
 laid_len p id size r tail unfilled =
-    ap (λ (b : Bool). length (if b then rule.filled p id (max size 1) r else made_data_sec (new_name p id r) size (vlen r.info) (map (placed p) (entries r.tail))).tail) unfilled
-    ∙ ap length (flat_map-map entry_words (placed p) (entries r.tail)) ∙ entries_len (λ e. entry_words (placed p e)) (λ e. refl) (vlen r.info) r.tail tail
+    ap (λ (b : Bool). length (if b then rule.filled p id (max size 1) r else made_data_sec (new_name p id r) size (vlen r.info) (map (placed p) (section_entries r.tail))).tail) unfilled
+    ∙ ap length (flat_map-map entry_words (placed p) (section_entries r.tail)) ∙ entries_len (λ e. entry_words (placed p e)) (λ e. refl) (vlen r.info) r.tail tail
 
 sized_len : (p : Pass) (id : ℕ) (r : Record) → gets_filler p id ≡ false → AsLong r (sized p id r)
 sized_len p id r unfilled = ap (λ (b : Bool). length (if b then rule.filled p id r.third r else record r { name = new_name p id r }).tail) unfilled
 
 section_len : (p : Pass) (lower : List Record) (id : ℕ) (r : Record) → length r.tail ≡ 3 * vlen r.info → gets_filler p id ≡ false → AsLong r (becomes_by p lower id (Some kinds.DataSec) r)
 section_len p lower id r tail unfilled =
-    by_both (AsLong r) (has p features.DataSec) (if r.third == 0 then completed p id (unwrap_or (section_size p id) 0) r else sized p id r) (struct (new_name p id r) (vlen r.info) (vlen r.info) (entry_members p lower id (entries r.tail)))
+    by_both (AsLong r) (has p features.DataSec) (if r.third == 0 then completed p id (unwrap_or (section_size p id) 0) r else sized p id r) (struct (new_name p id r) (vlen r.info) (vlen r.info) (entry_members p lower id (section_entries r.tail)))
     (by_both (AsLong r) (r.third == 0) (completed p id (unwrap_or (section_size p id) 0) r) (sized p id r) (laid_len p id (unwrap_or (section_size p id) 0) r tail unfilled) (sized_len p id r unfilled))
     (entries_len (λ e. member_name p lower id e.type ∷ e.type ∷ e.offset * 8 ∷ []) (λ e. refl) (vlen r.info) r.tail tail)
 
@@ -135,8 +135,8 @@ is_filled p id filled =
 filled_tail : (p : Pass) (lower : List Record) (id : ℕ) (k : Option Kind) (r : Record) → k ≡ Some kinds.DataSec → has p features.DataSec ≡ true → gets_filler p id ≡ true → length (becomes_by p lower id k r).tail ≡ 3
 filled_tail p lower id k r kind granted filled =
     let size : ℕ = unwrap_or (section_size p id) 0 in
-    let made : Record = struct (new_name p id r) (vlen r.info) (vlen r.info) (entry_members p lower id (entries r.tail)) in
-    let laid : Record = made_data_sec (new_name p id r) size (vlen r.info) (map (placed p) (entries r.tail)) in
+    let made : Record = struct (new_name p id r) (vlen r.info) (vlen r.info) (entry_members p lower id (section_entries r.tail)) in
+    let laid : Record = made_data_sec (new_name p id r) size (vlen r.info) (map (placed p) (section_entries r.tail)) in
     ap (λ (j : Option Kind). length (becomes_by p lower id j r).tail) kind ∙ ap (λ (b : Bool). length (if b then (if r.third == 0 then completed p id size r else sized p id r) else made).tail) granted
     ∙ ap (λ (b : Bool). length (if r.third == 0 then (if b then rule.filled p id (max size 1) r else laid) else (if b then rule.filled p id r.third r else record r { name = new_name p id r })).tail) filled
     ∙ by_both (λ (q : Record). length q.tail ≡ 3) (r.third == 0) (rule.filled p id (max size 1) r) (rule.filled p id r.third r) refl refl

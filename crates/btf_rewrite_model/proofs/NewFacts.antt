@@ -16,7 +16,7 @@ use Rattle.btf_model.specs.Refusal.{Refusal}
 use Rattle.btf_model.specs.Text.{is_zero, bytes_at, text_at, lossy}
 use Rattle.btf_rewrite_model.specs.declared.feature.BtfFeature.TheVariants as features
 use Rattle.btf_rewrite_model.specs.Feature.{is_global, is_signed}
-use Rattle.btf_rewrite_model.specs.Made.{record_at, kind_at, entries, variants, const, typedef, wants_name, byte_int, struct, union, enum, made_data_sec, with_linkage, unsigned}
+use Rattle.btf_rewrite_model.specs.Made.{record_at, kind_at, section_entries, variants, const, typedef, wants_name, byte_int, struct, union, enum, made_data_sec, with_linkage, unsigned}
 use Rattle.btf_rewrite_model.specs.Checks.{first_fault, name_is_read}
 use Rattle.btf_rewrite_model.specs.Pass.{Pass, has, name_of, name_checks, replaced, slash, dot, new_section_name, renaming, gets_filler, makes_filler, filler_type_text, filler_text, section_size, is_builtin, texts, texts_by, texts_below, offset_at, param_text}
 use Rattle.btf_rewrite_model.specs.Rule.{becomes, becomes_by, ruled_below, known_func, new_name, name_or, completed, sized, filled, named_params, placed, entry_members, variant_members, member_type_id}
@@ -192,17 +192,17 @@ fact_by p lower n id (Some kinds.FuncProto) lt some kind passed =
 fact_by p lower n id (Some kinds.DataSec) lt some kind passed =
     let r : Record = record_at p.table id in
     let strings : List ℕ = after p n in
-    one_of (Fact p strings) (has p features.DataSec) (if r.third == 0 then completed p id (unwrap_or (section_size p id) 0) r else sized p id r) (struct (new_name p id r) (vlen r.info) (vlen r.info) (entry_members p lower id (entries r.tail)))
+    one_of (Fact p strings) (has p features.DataSec) (if r.third == 0 then completed p id (unwrap_or (section_size p id) 0) r else sized p id r) (struct (new_name p id r) (vlen r.info) (vlen r.info) (entry_members p lower id (section_entries r.tail)))
     (λ granted.
     let named : (text : List ℕ) × (text_at strings (new_name p id r) ≡ Ok text) × (replaced slash dot text ≡ text) = name_fact p n id lt kind granted passed in
     let with_filler : (size : ℕ) → Fact p strings (filled p id size r) = λ size. of_kind p strings (filled p id size r) (Some kinds.DataSec) (kind_made 15 1 kinds.DataSec (omega arith) (omega arith) refl) named in
     one_of (Fact p strings) (r.third == 0) (completed p id (unwrap_or (section_size p id) 0) r) (sized p id r)
     (λ _. one_of (Fact p strings) (gets_filler p id) (filled p id (max (unwrap_or (section_size p id) 0) 1) r)
-    (made_data_sec (new_name p id r) (unwrap_or (section_size p id) 0) (vlen r.info) (map (placed p) (entries r.tail)))
+    (made_data_sec (new_name p id r) (unwrap_or (section_size p id) 0) (vlen r.info) (map (placed p) (section_entries r.tail)))
     (λ _. with_filler (max (unwrap_or (section_size p id) 0) 1))
-    (λ _. of_kind p strings (made_data_sec (new_name p id r) (unwrap_or (section_size p id) 0) (vlen r.info) (map (placed p) (entries r.tail))) (Some kinds.DataSec) (kind_made 15 (vlen r.info) kinds.DataSec (omega arith) (vlen_small r.info) refl) named))
+    (λ _. of_kind p strings (made_data_sec (new_name p id r) (unwrap_or (section_size p id) 0) (vlen r.info) (map (placed p) (section_entries r.tail))) (Some kinds.DataSec) (kind_made 15 (vlen r.info) kinds.DataSec (omega arith) (vlen_small r.info) refl) named))
     (λ _. one_of (Fact p strings) (gets_filler p id) (filled p id r.third r) (record r { name = new_name p id r }) (λ _. with_filler r.third) (λ _. of_kind p strings (record r { name = new_name p id r }) (Some kinds.DataSec) kind named)))
-    (λ _. of_kind p strings (struct (new_name p id r) (vlen r.info) (vlen r.info) (entry_members p lower id (entries r.tail))) (Some kinds.Struct) (kind_made 4 (vlen r.info) kinds.Struct (omega arith) (vlen_small r.info) refl) tt)
+    (λ _. of_kind p strings (struct (new_name p id r) (vlen r.info) (vlen r.info) (entry_members p lower id (section_entries r.tail))) (Some kinds.Struct) (kind_made 4 (vlen r.info) kinds.Struct (omega arith) (vlen_small r.info) refl) tt)
 fact_by p lower n id k lt some kind passed = of_kind p (after p n) (record_at p.table id) k kind tt
 
 -- What the record of an id becomes has the fact of its kind.

@@ -11,7 +11,7 @@ use Rattle.btf_model.specs.Table.{Fallback}
 use Rattle.btf_rewrite_model.specs.declared.feature.BtfFeature.TheVariants as features
 use Rattle.btf_rewrite_model.specs.Feature.{same_feature, is_global, is_signed, has_no_entries, needs_by, is_sized_and_empty, fills_sized}
 use Rattle.btf_rewrite_model.specs.declared.feature.BtfFeature.{BtfFeature}
-use Rattle.btf_rewrite_model.specs.Made.{record_at, kind_at, entries, variants, byte_int, const, typedef, struct, union, enum, with_linkage, unsigned, enum64_fallback}
+use Rattle.btf_rewrite_model.specs.Made.{record_at, kind_at, section_entries, variants, byte_int, const, typedef, struct, union, enum, with_linkage, unsigned, enum64_fallback}
 use Rattle.btf_rewrite_model.specs.Checks.{first_fault, name_is_read, have_room, fits, record_len}
 use Rattle.btf_rewrite_model.specs.Pass.{Pass, has, name_of, name_checks, sized_asks_zero, unsized_asks_zero, replaced, slash, dot, new_section_name, renaming, gets_filler, makes_filler, makes_member_type, wants_member_type, least, is_enum64, is_unsized, is_zero_or, is_positive, section_size, is_builtin, texts, texts_by, param_texts, offset_at, added, added_by, free_id, func_asks, data_sec_asks, asks_by, filler_type_text, filler_text, filler, filler_offset, member_type_text, param_text, underscore_byte, type_len_at}
 use Rattle.btf_rewrite_model.specs.Rule.{becomes_by, known_func, new_name, name_or, named_params, falls_back_by, completed, sized, filled, variant_members, entry_members, member_type_id}
@@ -171,14 +171,14 @@ module _ (p q : Pass) (id : ℕ) where
       let none_tested : filling_checks q id ≡ [] =
       ap (λ (b : Bool). (if b then filler_checks q id else []) ++ growth_checks q id) makes_none ∙ ap (λ (b : Bool). if b then fits (type_len_at q id + sum_by record_len (added q id)) 12 ∷ [] else []) gets_none in
       kept q id (Some kinds.DataSec)
-      (λ lower. ap (λ (b : Bool). if b then (if r.third == 0 then completed q id (unwrap_or (section_size q id) 0) r else sized q id r) else struct (new_name q id r) (vlen r.info) (vlen r.info) (entry_members q lower id (entries r.tail))) is_granted
+      (λ lower. ap (λ (b : Bool). if b then (if r.third == 0 then completed q id (unwrap_or (section_size q id) 0) r else sized q id r) else struct (new_name q id r) (vlen r.info) (vlen r.info) (entry_members q lower id (section_entries r.tail))) is_granted
       ∙ ap (λ (b : Bool). if b then completed q id (unwrap_or (section_size q id) 0) r else sized q id r) has_size
       ∙ ap (λ (b : Bool). if b then filled q id r.third r else record r { name = new_name q id r }) gets_none
       ∙ ap (λ ts. record r { name = name_or r.name (offset_at q id) ts }) none_renamed)
       (ap (λ ts. ts ++ (if makes_filler q id then filler_type_text ∷ filler_text ∷ [] else [])) none_renamed ∙ ap (λ (b : Bool). if b then filler_type_text ∷ filler_text ∷ [] else []) makes_none)
       (λ free. ap (λ (b : Bool). if b then filler (filler_offset q id) free else []) makes_none) (λ old. refl)
-      (ap (λ ts. first_fault (name_is_read (name_of q id) ∷ have_room (offset_at q id) ts ++ (if has q features.DataSec then (if r.third == 0 then completing_checks q id r else filling_checks q id) else flat_map (member_checks q) (entries r.tail)))) none_renamed
-      ∙ ap (λ m. first_fault (name_is_read m ∷ [] ++ (if has q features.DataSec then (if r.third == 0 then completing_checks q id r else filling_checks q id) else flat_map (member_checks q) (entries r.tail)))) reads
-      ∙ ap (λ (b : Bool). first_fault (if b then (if r.third == 0 then completing_checks q id r else filling_checks q id) else flat_map (member_checks q) (entries r.tail))) is_granted
+      (ap (λ ts. first_fault (name_is_read (name_of q id) ∷ have_room (offset_at q id) ts ++ (if has q features.DataSec then (if r.third == 0 then completing_checks q id r else filling_checks q id) else flat_map (member_checks q) (section_entries r.tail)))) none_renamed
+      ∙ ap (λ m. first_fault (name_is_read m ∷ [] ++ (if has q features.DataSec then (if r.third == 0 then completing_checks q id r else filling_checks q id) else flat_map (member_checks q) (section_entries r.tail)))) reads
+      ∙ ap (λ (b : Bool). first_fault (if b then (if r.third == 0 then completing_checks q id r else filling_checks q id) else flat_map (member_checks q) (section_entries r.tail))) is_granted
       ∙ ap (λ (b : Bool). first_fault (if b then completing_checks q id r else filling_checks q id)) has_size ∙ ap first_fault none_tested)
   stays k kind fact sized granted = kept q id k (λ lower. refl) refl (λ free. refl) (λ old. refl) refl

@@ -11,23 +11,21 @@ use Rattle.btf_rewrite_model.specs.Feature.{needs}
 use Rattle.btf_rewrite_model.specs.declared.feature.BtfFeature.{BtfFeature}
 use Rattle.btf_rewrite_model.specs.declared.feature.FillPolicy.{FillPolicy}
 use Rattle.btf_rewrite_model.specs.declared.feature.FillPolicy.TheVariants.{KeepSized, FillSized}
-use Rattle.btf_rewrite_model.specs.Pass.{Pass, Asked, asks, texts_below, added_below}
+use Rattle.btf_rewrite_model.specs.Pass.{Pass, no_layout, Asked, asks, texts_below, added_below}
 use Rattle.btf_rewrite_model.specs.Fault.{fault}
 use Rattle.btf_rewrite_model.specs.Rule.{ruled_below, becomes}
 use Rattle.btf_rewrite_model.specs.Rewritten.{rewritten}
-use Rattle.btf_model.specs.CompatExamples.{table_of}
-use Rattle.btf_rewrite_model.specs.RewriteExamples.{no_layout, only, named_table, granted, int}
-
--- a DATASEC of this name and size, with this number of entries, by their words
-abbrev data_sec : ℕ → ℕ → ℕ → List ℕ → Record
-data_sec name size count words = record { name = name; info = 0x0f000000 + count; third = size; tail = words }
+use Rattle.btf_model.specs.CompatExamples.{table_with}
+use Rattle.btf_model.specs.Made.{data_sec}
+use Rattle.btf_rewrite_model.specs.Made.{c_int}
+use Rattle.btf_rewrite_model.specs.RewriteExamples.{only, named_table, granted}
 
 -- ---- a section with a variable
 
 -- "int" at 1, "foo" at 5, ".data/foo" at 9: INT 1, Global VAR 2 of it, and DATASEC 3 of size 0 with it as its entry
 abbrev completed_section : Pass
 completed_section = record {
-  table = named_table (codes "int" ∷ codes "foo" ∷ codes ".data/foo" ∷ []) (int 1 ∷ record { name = 5; info = 0x0e000000; third = 1; tail = 1 ∷ [] } ∷ data_sec 9 0 1 (2 ∷ 0 ∷ 4 ∷ []) ∷ []);
+  table = named_table (codes "int" ∷ codes "foo" ∷ codes ".data/foo" ∷ []) (c_int 1 ∷ record { name = 5; info = 0x0e000000; third = 1; tail = 1 ∷ [] } ∷ data_sec 9 0 1 (2 ∷ 0 ∷ 4 ∷ []) ∷ []);
   layout = record { sections = only (codes ".data/foo") 32; symbols = only (codes "foo") 64 };
   policy = KeepSized;
   answers = granted (features.DataSec ∷ []);
@@ -181,7 +179,7 @@ appended_type_is_unknown = refl
 -- INT 1, FUNC_PROTO 2 with a parameter without a name, FUNC 3 of the name 1, an offset after all strings
 abbrev after_all_strings : Pass
 after_all_strings = record {
-  table = table_of (int 0 ∷ record { name = 0; info = 0x0d000001; third = 0; tail = 0 ∷ 1 ∷ [] } ∷ record { name = 1; info = 0x0c000000; third = 2; tail = [] } ∷ []);
+  table = table_with (c_int 0 ∷ record { name = 0; info = 0x0d000001; third = 0; tail = 0 ∷ 1 ∷ [] } ∷ record { name = 1; info = 0x0c000000; third = 2; tail = [] } ∷ []);
   layout = no_layout;
   policy = KeepSized;
   answers = granted (features.Func ∷ []);

@@ -6,7 +6,7 @@ use Rattle.btf_model.specs.Record as kinds
 use Rattle.btf_model.specs.Record.{Kind, Record}
 use Rattle.btf_model.specs.Refusal.{Refusal, InvalidTypeInfo, UnknownSectionSize, SymbolOffsetNotFound}
 use Rattle.btf_rewrite_model.specs.declared.feature.BtfFeature.TheVariants as features
-use Rattle.btf_rewrite_model.specs.Made.{Entry, entries, record_at, kind_at, is_static, byte_int, static_var}
+use Rattle.btf_rewrite_model.specs.Made.{Entry, section_entries, record_at, kind_at, is_static, byte_int, static_var}
 use Rattle.btf_rewrite_model.specs.Checks.{Check, first_fault, name_is_read, is_known, has_room, have_room, fits, record_len}
 use Rattle.btf_rewrite_model.specs.Ksyms.{is_var}
 use Rattle.btf_rewrite_model.specs.Pass.{Pass, has, name_of, name_checks, section_size, gets_filler, makes_filler, filler_type_text, filler_text, filler_offset, texts, added, offset_at, type_len_at, symbol_offset, member_type_text}
@@ -60,7 +60,7 @@ filling_checks p id = (if makes_filler p id then filler_checks p id else []) ++ 
 abbrev pub completing_checks : Pass → ℕ → Record → List Check
 completing_checks p id r =
     is_sized (section_size p id) (name_of p id) ∷ (if makes_filler p id then filler_checks p id else [])
-    ++ flat_map (entry_checks p) (entries r.tail) ++ growth_checks p id
+    ++ flat_map (entry_checks p) (section_entries r.tail) ++ growth_checks p id
 
 -- ---- the tests of each kind
 
@@ -82,7 +82,7 @@ checks_by p id (Some kinds.Enum64) r =
 checks_by p id (Some kinds.DataSec) r =
     name_checks p id ++ (if has p features.DataSec
     then (if r.third == 0 then completing_checks p id r else filling_checks p id)
-    else flat_map (member_checks p) (entries r.tail))
+    else flat_map (member_checks p) (section_entries r.tail))
 checks_by p id k r = []
 
 -- Why a rewrite is refused at this id, if it is.

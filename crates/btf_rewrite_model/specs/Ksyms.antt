@@ -8,7 +8,7 @@ use Rattle.btf_model.specs.Record.{Kind, Int, Func, FuncProto, Var, DataSec, Rec
 use Rattle.btf_model.specs.Refusal.{Refusal, InvalidDatasec}
 use Rattle.btf_model.specs.Table.{Table, type_bytes, with_string, with_type}
 use Rattle.btf_model.specs.Text.{text_at}
-use Rattle.btf_rewrite_model.specs.Made.{Entry, entries, entry_words, record_at, kind_at, table_ids, c_int, with_linkage, wants_name}
+use Rattle.btf_rewrite_model.specs.Made.{Entry, section_entries, entry_words, record_at, kind_at, table_ids, c_int, with_linkage, wants_name}
 use Rattle.btf_rewrite_model.specs.Checks.{Check, first_fault, name_is_read, is_known, has_room, fits, record_len}
 use Rattle.btf_rewrite_model.specs.declared.ksyms_ids.KsymsIds.{KsymsIds}
 
@@ -39,7 +39,7 @@ symbol_type t None = int_of_4 t
 
 -- the entries of the DATASEC of the symbols
 abbrev pub ksyms_entries : Table → KsymsIds → List Entry
-ksyms_entries t ids = entries (record_at t ids.datasec_id).tail
+ksyms_entries t ids = section_entries (record_at t ids.datasec_id).tail
 
 -- an entry has this id as its type
 abbrev pub names_ksyms : Table → KsymsIds → ℕ → Bool

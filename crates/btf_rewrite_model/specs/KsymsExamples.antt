@@ -9,14 +9,13 @@ use Rattle.btf_rewrite_model.specs.declared.feature.FillPolicy.TheVariants.{Keep
 use Rattle.btf_rewrite_model.specs.declared.feature.BtfFeature.TheVariants as features
 use Rattle.btf_rewrite_model.specs.Ksyms.{ksyms_table, ksyms_fault}
 use Rattle.btf_rewrite_model.specs.declared.ksyms_ids.KsymsIds.{KsymsIds}
-use Rattle.btf_rewrite_model.specs.Pass.{Pass, Asked}
+use Rattle.btf_rewrite_model.specs.Pass.{Pass, no_layout, Asked}
 use Rattle.btf_rewrite_model.specs.Fault.{fault}
 use Rattle.btf_rewrite_model.specs.Rewritten.{pass_of, rewritten}
-use Rattle.btf_model.specs.CompatExamples.{table_of}
-use Rattle.btf_rewrite_model.specs.RewriteExamples.{no_layout, named_table, int, func}
-
-abbrev var : ℕ → ℕ → ℕ → Record
-var name type linkage = record { name = name; info = 0x0e000000; third = type; tail = linkage ∷ [] }
+use Rattle.btf_model.specs.CompatExamples.{table_with}
+use Rattle.btf_model.specs.Made.{var, func}
+use Rattle.btf_rewrite_model.specs.Made.{c_int}
+use Rattle.btf_rewrite_model.specs.RewriteExamples.{named_table}
 
 -- a DATASEC of this name and size, with one entry
 abbrev one_entry : ℕ → ℕ → ℕ → ℕ → ℕ → Record
@@ -41,9 +40,9 @@ int_is_named = refl
 -- "int" at 1, "a" at 5, "b" at 7: INT 1, Extern VARs 2 and 3, and DATASEC 4 with both as entries: their offsets are 4
 -- bytes apart
 abbrev two_variables : Table
-two_variables = named_table (codes "int" ∷ codes "a" ∷ codes "b" ∷ []) (int 1 ∷ var 5 0 2 ∷ var 7 0 2 ∷ record { name = 0; info = 0x0f000002; third = 0; tail = 2 ∷ 0 ∷ 0 ∷ 3 ∷ 0 ∷ 8 ∷ [] } ∷ [])
+two_variables = named_table (codes "int" ∷ codes "a" ∷ codes "b" ∷ []) (c_int 1 ∷ var 5 0 2 ∷ var 7 0 2 ∷ record { name = 0; info = 0x0f000002; third = 0; tail = 2 ∷ 0 ∷ 0 ∷ 3 ∷ 0 ∷ 8 ∷ [] } ∷ [])
 
-entries_are_laid_out : (ksyms_table two_variables (ids 4 None)).records ≡ unknown ∷ int 1 ∷ var 5 1 1 ∷ var 7 1 1 ∷ record { name = 0; info = 0x0f000002; third = 8; tail = 2 ∷ 0 ∷ 4 ∷ 3 ∷ 4 ∷ 4 ∷ [] } ∷ []
+entries_are_laid_out : (ksyms_table two_variables (ids 4 None)).records ≡ unknown ∷ c_int 1 ∷ var 5 1 1 ∷ var 7 1 1 ∷ record { name = 0; info = 0x0f000002; third = 8; tail = 2 ∷ 0 ∷ 4 ∷ 3 ∷ 4 ∷ 4 ∷ [] } ∷ []
 entries_are_laid_out = refl
 
 -- the INT is appended, and is not a type of the table as the step began
@@ -56,10 +55,10 @@ appended_int_is_unknown = refl
 -- of it, Global VAR 4 "ph" of 1, and DATASEC 5 with the FUNC as its entry
 abbrev extern_function : Table
 extern_function = named_table (codes "f" ∷ codes "ph" ∷ codes ".ksyms" ∷ codes "int" ∷ [])
-    (int 13 ∷ record { name = 0; info = 0x0d000001; third = 1; tail = 0 ∷ 1 ∷ [] } ∷ func 1 2 2 ∷ var 3 1 1 ∷ one_entry 6 0 3 0 0 ∷ [])
+    (c_int 13 ∷ record { name = 0; info = 0x0d000001; third = 1; tail = 0 ∷ 1 ∷ [] } ∷ func 1 2 2 ∷ var 3 1 1 ∷ one_entry 6 0 3 0 0 ∷ [])
 
 placeholder_replaces_it : ksyms_table extern_function (ids 5 (Some 4))
-    ≡ record extern_function { records = unknown ∷ int 13 ∷ record { name = 0; info = 0x0d000001; third = 1; tail = 3 ∷ 1 ∷ [] } ∷ func 1 1 2 ∷ var 3 1 1 ∷ one_entry 6 4 4 0 4 ∷ [] }
+    ≡ record extern_function { records = unknown ∷ c_int 13 ∷ record { name = 0; info = 0x0d000001; third = 1; tail = 3 ∷ 1 ∷ [] } ∷ func 1 2 1 ∷ var 3 1 1 ∷ one_entry 6 4 4 0 4 ∷ [] }
 placeholder_replaces_it = refl
 
 -- a placeholder that is no VAR, one that does not exist, and a DATASEC id that is no DATASEC
@@ -72,10 +71,10 @@ unfolding pieces_from encode
 no_fault = refl
 
 -- a DATASEC ".d" at 1 that is its own entry: it is no variable, and no INT is appended for it
-abbrev own_entry : Table
-own_entry = named_table (codes ".d" ∷ []) (one_entry 1 0 1 0 4 ∷ [])
+abbrev entry_of_itself : Table
+entry_of_itself = named_table (codes ".d" ∷ []) (one_entry 1 0 1 0 4 ∷ [])
 
-own_entry_is_no_symbol : ksyms_fault own_entry (ids 1 None) ≡ Some InvalidDatasec
+own_entry_is_no_symbol : ksyms_fault entry_of_itself (ids 1 None) ≡ Some InvalidDatasec
 unfolding pieces_from encode
 own_entry_is_no_symbol = refl
 
@@ -83,7 +82,7 @@ own_entry_is_no_symbol = refl
 
 -- the strings end without a zero byte: 0x66 is no text, until "int" and its zero byte are appended after it
 abbrev open_ended : Option KsymsIds → Pass
-open_ended given = pass_of KeepSized (record (table_of (record { name = 0; info = 0x0f000000; third = 0; tail = [] } ∷ func 1 0 0 ∷ [])) { strings = 0 ∷ 0x66 ∷ [] }) given no_layout []
+open_ended given = pass_of KeepSized (record (table_with (record { name = 0; info = 0x0f000000; third = 0; tail = [] } ∷ func 1 0 0 ∷ [])) { strings = 0 ∷ 0x66 ∷ [] }) given no_layout []
 
 -- after the step the name of FUNC 2 is "fint"
 read_after_the_step : (fault (open_ended (Some (ids 1 None))) 2 ≡ None)

@@ -31,9 +31,9 @@ pub record Entry : Type 0 where
   pub size : ℕ
 
 -- the entries in the words of a DATASEC
-abbrev pub entries : List ℕ → List Entry
-entries (type ∷ offset ∷ size ∷ words) = record { type = type; offset = offset; size = size } ∷ entries words
-entries words = []
+abbrev pub section_entries : List ℕ → List Entry
+section_entries (type ∷ offset ∷ size ∷ words) = record { type = type; offset = offset; size = size } ∷ section_entries words
+section_entries words = []
 
 -- the words of an entry
 abbrev pub entry_words : Entry → List ℕ

@@ -24,6 +24,10 @@ pub record Layout : Type 0 where
   pub sections : List ℕ → Option ℕ
   pub symbols : List ℕ → Option ℕ
 
+-- the layout of a program that has no sections and no symbols
+abbrev pub no_layout : Layout
+no_layout = record { sections = λ name. None; symbols = λ name. None }
+
 -- A pass over a table: the table as the pass begins, in which all names and ids are read; the layout of the program;
 -- the policy for DATASECs that have a size and no entries; and the kernel's answers.
 pub record Pass : Type 0 where

@@ -12,16 +12,14 @@ use Rattle.btf_rewrite_model.specs.declared.feature.BtfFeature.TheVariants as fe
 use Rattle.btf_rewrite_model.specs.declared.feature.BtfFeature.{BtfFeature}
 use Rattle.btf_rewrite_model.specs.declared.feature.FeatureAnswer.{FeatureAnswer}
 use Rattle.btf_rewrite_model.specs.declared.feature.FillPolicy.TheVariants.{KeepSized}
-use Rattle.btf_rewrite_model.specs.Pass.{Pass, Layout, Asked, asks, texts_below, added_below}
+use Rattle.btf_rewrite_model.specs.Pass.{Pass, Layout, no_layout, Asked, asks, texts_below, added_below}
 use Rattle.btf_rewrite_model.specs.Fault.{fault}
 use Rattle.btf_rewrite_model.specs.Rule.{ruled_below, becomes, falls_back}
-use Rattle.btf_model.specs.CompatExamples.{table_of}
+use Rattle.btf_model.specs.CompatExamples.{table_with}
+use Rattle.btf_model.specs.Made.{func}
+use Rattle.btf_rewrite_model.specs.Made.{c_int}
 
 -- ---- how the examples are written
-
--- a program that has no sections and no symbols
-abbrev pub no_layout : Layout
-no_layout = record { sections = λ name. None; symbols = λ name. None }
 
 -- only this name is known, with this number
 abbrev pub only : List ℕ → ℕ → List ℕ → Option ℕ
@@ -33,26 +31,18 @@ strings_of texts = 0 ∷ flat_map (λ text. text ++ 0 ∷ []) texts
 
 -- a table of these texts and these records
 abbrev pub named_table : List (List ℕ) → List Record → Table
-named_table texts rs = record (table_of rs) { strings = strings_of texts }
+named_table texts rs = record (table_with rs) { strings = strings_of texts }
 
 -- answers that grant these features, and no others
 abbrev pub granted : List BtfFeature → List FeatureAnswer
 granted fs = map (λ feature. record { feature = feature; granted = true }) fs
-
--- an INT of 4 bytes with a sign, of this name
-abbrev pub int : ℕ → Record
-int name = record { name = name; info = 0x01000000; third = 4; tail = 0x01000020 ∷ [] }
-
--- a FUNC of this name, linkage and prototype
-abbrev pub func : ℕ → ℕ → ℕ → Record
-func name linkage type = record { name = name; info = 0x0c000000 + linkage; third = type; tail = [] }
 
 -- ---- FLOAT, TYPE_TAG, DECL_TAG, ENUM, PTR
 
 -- FLOATs of 4 and 8 bytes
 abbrev floats : List BtfFeature → Pass
 floats fs = record {
-  table = table_of (record { name = 5; info = 0x10000000; third = 4; tail = [] } ∷ record { name = 9; info = 0x10000000; third = 8; tail = [] } ∷ []);
+  table = table_with (record { name = 5; info = 0x10000000; third = 4; tail = [] } ∷ record { name = 9; info = 0x10000000; third = 8; tail = [] } ∷ []);
   layout = no_layout;
   policy = KeepSized;
   answers = granted fs;
@@ -71,7 +61,7 @@ float_is_asked_once = refl
 -- 7 with a name
 abbrev kept_and_replaced : Pass
 kept_and_replaced = record {
-  table = table_of (record { name = 0; info = 0x10000000; third = 4; tail = [] }
+  table = table_with (record { name = 0; info = 0x10000000; third = 4; tail = [] }
       ∷ record { name = 0; info = 0x12000000; third = 1; tail = [] }
       ∷ record { name = 0; info = 0x10000000; third = 4; tail = [] }
       ∷ record { name = 0; info = 0x11000000; third = 1; tail = 0xffffffff ∷ [] }
@@ -108,7 +98,7 @@ unsigned_enum_asks_nothing = refl
 -- "int" at 1; INT 1, and FUNC_PROTO 2 with two parameters of type 1 that have no names
 abbrev nameless : Pass
 nameless = record {
-  table = named_table (codes "int" ∷ []) (int 1 ∷ record { name = 0; info = 0x0d000002; third = 1; tail = 0 ∷ 1 ∷ 0 ∷ 1 ∷ [] } ∷ []);
+  table = named_table (codes "int" ∷ []) (c_int 1 ∷ record { name = 0; info = 0x0d000002; third = 1; tail = 0 ∷ 1 ∷ 0 ∷ 1 ∷ [] } ∷ []);
   layout = no_layout;
   policy = KeepSized;
   answers = granted (features.Func ∷ []);
@@ -125,13 +115,13 @@ their_texts = refl
 -- "static" at 1, "memcpy" at 8, "global" at 15: a FUNC of each, Static, Global and Global
 abbrev three_funcs : List BtfFeature → Pass
 three_funcs fs = record {
-  table = named_table (codes "static" ∷ codes "memcpy" ∷ codes "global" ∷ []) (func 1 0 0 ∷ func 8 1 0 ∷ func 15 1 0 ∷ []);
+  table = named_table (codes "static" ∷ codes "memcpy" ∷ codes "global" ∷ []) (func 1 0 0 ∷ func 8 0 1 ∷ func 15 0 1 ∷ []);
   layout = no_layout;
   policy = KeepSized;
   answers = granted fs;
 }
 
-builtin_becomes_static : ruled_below (three_funcs (features.Func ∷ features.FuncGlobal ∷ [])) 4 ≡ unknown ∷ func 1 0 0 ∷ func 8 0 0 ∷ func 15 1 0 ∷ []
+builtin_becomes_static : ruled_below (three_funcs (features.Func ∷ features.FuncGlobal ∷ [])) 4 ≡ unknown ∷ func 1 0 0 ∷ func 8 0 0 ∷ func 15 0 1 ∷ []
 unfolding pieces_from encode
 builtin_becomes_static = refl
 
@@ -146,7 +136,7 @@ denied_global_becomes_static = refl
 
 -- a name that cannot be read: the rewrite asks for nothing, and is refused
 abbrev unreadable : Pass
-unreadable = record { table = table_of (func 1 1 0 ∷ []); layout = no_layout; policy = KeepSized; answers = [] }
+unreadable = record { table = table_with (func 1 0 1 ∷ []); layout = no_layout; policy = KeepSized; answers = [] }
 
 unreadable_name_asks_nothing : (asks unreadable 1 ≡ []) × (fault unreadable 1 ≡ Some (InvalidStringOffset 1))
 unreadable_name_asks_nothing = (refl, refl)
@@ -154,7 +144,7 @@ unreadable_name_asks_nothing = (refl, refl)
 -- "int" at 1, "a" at 5, "b" at 7, "inc" at 9: INT 1, FUNC_PROTO 2 with the parameters a and b, Static FUNC 3 of it
 abbrev no_functions : Pass
 no_functions = record {
-  table = named_table (codes "int" ∷ codes "a" ∷ codes "b" ∷ codes "inc" ∷ []) (int 1 ∷ record { name = 0; info = 0x0d000002; third = 1; tail = 5 ∷ 1 ∷ 7 ∷ 1 ∷ [] } ∷ func 9 0 2 ∷ []);
+  table = named_table (codes "int" ∷ codes "a" ∷ codes "b" ∷ codes "inc" ∷ []) (c_int 1 ∷ record { name = 0; info = 0x0d000002; third = 1; tail = 5 ∷ 1 ∷ 7 ∷ 1 ∷ [] } ∷ func 9 2 0 ∷ []);
   layout = no_layout;
   policy = KeepSized;
   answers = [];
@@ -174,7 +164,7 @@ func_is_asked_once = refl
 -- an ENUM64 of two values without names
 abbrev large_enum : Pass
 large_enum = record {
-  table = table_of (record { name = 0; info = 0x13000002; third = 8; tail = 0 ∷ 1 ∷ 0 ∷ 0 ∷ 5 ∷ 1 ∷ [] } ∷ []);
+  table = table_with (record { name = 0; info = 0x13000002; third = 8; tail = 0 ∷ 1 ∷ 0 ∷ 0 ∷ 5 ∷ 1 ∷ [] } ∷ []);
   layout = no_layout;
   policy = KeepSized;
   answers = [];

@@ -9,7 +9,7 @@ use Rattle.btf_model.specs.Refusal.{Refusal}
 use Rattle.btf_model.specs.Table.{Variant, Fallback}
 use Rattle.btf_rewrite_model.specs.declared.feature.BtfFeature.TheVariants as features
 use Rattle.btf_rewrite_model.specs.Feature.{is_global, is_signed}
-use Rattle.btf_rewrite_model.specs.Made.{Entry, entries, variants, record_at, kind_at, is_static, wants_name, byte_int, const, typedef, struct, union, enum, made_data_sec, with_linkage, unsigned, enum64_fallback}
+use Rattle.btf_rewrite_model.specs.Made.{Entry, section_entries, variants, record_at, kind_at, is_static, wants_name, byte_int, const, typedef, struct, union, enum, made_data_sec, with_linkage, unsigned, enum64_fallback}
 use Rattle.btf_rewrite_model.specs.Pass.{Pass, has, name_of, least, renaming, section_size, gets_filler, wants_member_type, offset_at, free_id, is_builtin, param_text, symbol_offset}
 
 -- ---- functions
@@ -76,7 +76,7 @@ filled p id size r = made_data_sec (new_name p id r) size 1 (record { type = fil
 abbrev pub completed : Pass → ℕ → ℕ → Record → Record
 completed p id size r =
     if gets_filler p id then filled p id (max size 1) r
-    else made_data_sec (new_name p id r) size (vlen r.info) (map (placed p) (entries r.tail))
+    else made_data_sec (new_name p id r) size (vlen r.info) (map (placed p) (section_entries r.tail))
 
 -- A DATASEC that has a size retains it: it only gets its new name, or also the filler.
 abbrev pub sized : Pass → ℕ → Record → Record
@@ -103,7 +103,7 @@ becomes_by p lower id (Some kinds.FuncProto) r =
 becomes_by p lower id (Some kinds.DataSec) r =
     if has p features.DataSec then (if r.third == 0 then completed p id (unwrap_or (section_size p id) 0) r
     else sized p id r)
-    else struct (new_name p id r) (vlen r.info) (vlen r.info) (entry_members p lower id (entries r.tail))
+    else struct (new_name p id r) (vlen r.info) (vlen r.info) (entry_members p lower id (section_entries r.tail))
 becomes_by p lower id k r = r
 
 -- the new records of this id and all lower ids, given the new records of the lower ids

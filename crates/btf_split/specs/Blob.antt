@@ -15,8 +15,8 @@ written_header order front types strings =
     take 4 front ++ flat_map (word order) (header_len ∷ 0 ∷ types ∷ types ∷ strings ∷ [])
 
 -- The section whose offset and length are at this place in the header is inside the blob.
-abbrev pub HasSection : List ℕ → ℕ → Endianness → Type 0
-HasSection blob offset_at endianness =
+abbrev pub HoldsSection : List ℕ → ℕ → Endianness → Type 0
+HoldsSection blob offset_at endianness =
     model.word_at endianness 4 blob + model.word_at endianness offset_at blob + model.word_at endianness
     (offset_at + 4) blob ≤ length blob
 

@@ -4,7 +4,7 @@ ghost use Rattle.std.specs.Prelude.{All, ◌≡◌, ◌+◌, ◌<◌, ◌≤◌,
 ghost use Rattle.btf_model.specs.Blob as model;
 ghost use Rattle.btf_model.specs.Blob.{header_of};
 ghost use Rattle.btf_split_model.specs.Hint.{HasSections};
-ghost use Rattle.btf_split.specs.Blob.{written_header, HasSection};
+ghost use Rattle.btf_split.specs.Blob.{written_header, HoldsSection};
 
 use btf_plain::Endianness;
 use std::alloc::AllocError;
@@ -37,7 +37,7 @@ fn word_at(blob: &[u8], offset: usize, endianness: Endianness) -> u32
 fn section(blob: &[u8], offset_at: usize, endianness: Endianness) -> &[u8]
     requires words { offset_at + 8 ≤ length blob.now }
     requires header { 24 ≤ length blob.now }
-    requires fits { HasSection blob.now offset_at endianness }
+    requires fits { HoldsSection blob.now offset_at endianness }
     ensures { result.now ≡ model.slice
         (model.word_at endianness 4 blob.now + model.word_at endianness offset_at blob.now)
         (model.word_at endianness (offset_at + 4) blob.now) blob.now }

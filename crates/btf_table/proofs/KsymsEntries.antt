@@ -8,7 +8,7 @@ use Rattle.std.proofs.lemmas.List.Concat.{flat_map-append}
 use Rattle.std.proofs.lemmas.List.Folds.{list_any-append}
 use Rattle.btf_model.specs.Refusal.{Refusal}
 use Rattle.btf_model.specs.Table.{Table}
-use Rattle.btf_rewrite_model.specs.Made.{Entry, entries, record_at, kind_at}
+use Rattle.btf_rewrite_model.specs.Made.{Entry, section_entries, record_at, kind_at}
 use Rattle.btf_rewrite_model.specs.Checks.{Check, first_fault}
 use Rattle.btf_rewrite_model.specs.Ksyms.{is_func, ksyms_entry_checks}
 use Rattle.btf_plain.specs.Items.{code_entry_words}
@@ -18,7 +18,7 @@ use Rattle.btf_table.specs.declared.sanitize.ksyms.Symbols.{Symbols}
 use Rattle.btf_table.proofs.Checks.{fault_after, fault_before}
 
 -- the words of entries are read as these
-pub entries_of_words : (es : List DataSecEntry) → entries (flat_map code_entry_words es) ≡ map model_entry es
+pub entries_of_words : (es : List DataSecEntry) → section_entries (flat_map code_entry_words es) ≡ map model_entry es
 entries_of_words [] = refl
 entries_of_words (e ∷ es) = ap (λ (rest : List Entry). model_entry e ∷ rest) (entries_of_words es)
 
@@ -78,15 +78,15 @@ any_up_to test es i lt = ap (λ (xs : List DataSecEntry). list_any test (map mod
 
 -- the refusal of an entry that does not pass is what the search returns
 pub fault_found : (t : Table) (placeholder : Option ℕ) (tail : List ℕ) (es : List DataSecEntry) (i : ℕ) (refusal : Refusal) → tail ≡ flat_map code_entry_words es → i < length es
-    → first_fault (flat_map (ksyms_entry_checks t placeholder) (map model_entry (take i es))) ≡ None → first_fault (ksyms_entry_checks t placeholder (model_entry (at es i))) ≡ Some refusal → FindsSymbols t placeholder (entries tail) (Err refusal)
+    → first_fault (flat_map (ksyms_entry_checks t placeholder) (map model_entry (take i es))) ≡ None → first_fault (ksyms_entry_checks t placeholder (model_entry (at es i))) ≡ Some refusal → FindsSymbols t placeholder (section_entries tail) (Err refusal)
 fault_found t placeholder tail es i refusal words lt before faults =
-    subst (λ (xs : List Entry). FindsSymbols t placeholder xs (Err refusal)) (sym (entries_of_words es) ∙ ap entries (sym words)) (faults_at t placeholder es i refusal lt before faults)
+    subst (λ (xs : List Entry). FindsSymbols t placeholder xs (Err refusal)) (sym (entries_of_words es) ∙ ap section_entries (sym words)) (faults_at t placeholder es i refusal lt before faults)
 
 -- after the last entry, all have passed
 pub found_symbols : (t : Table) (placeholder : Option ℕ) (tail : List ℕ) (es : List DataSecEntry) (i : ℕ) (symbols : Symbols) → tail ≡ flat_map code_entry_words es → length es ≤ i
-    → (first_fault (flat_map (ksyms_entry_checks t placeholder) (map model_entry (take i es))) ≡ None) × HasSymbols t (map model_entry (take i es)) symbols → FindsSymbols t placeholder (entries tail) (Ok symbols)
+    → (first_fault (flat_map (ksyms_entry_checks t placeholder) (map model_entry (take i es))) ≡ None) × HasSymbols t (map model_entry (take i es)) symbols → FindsSymbols t placeholder (section_entries tail) (Ok symbols)
 found_symbols t placeholder tail es i symbols words end found =
-    subst (λ (xs : List Entry). FindsSymbols t placeholder xs (Ok symbols)) (ap (map model_entry) (take_all i es end) ∙ sym (entries_of_words es) ∙ ap entries (sym words)) found
+    subst (λ (xs : List Entry). FindsSymbols t placeholder xs (Ok symbols)) (ap (map model_entry) (take_all i es end) ∙ sym (entries_of_words es) ∙ ap section_entries (sym words)) found
 
 this_or_not : (f : Bool) (prototype id : ℕ) → is_this (if f then Some prototype else None) id ≡ (f && (prototype == id))
 this_or_not true prototype id = refl

@@ -7,7 +7,7 @@ use Rattle.std.proofs.Math.Seq.{take-suc, drop-cons}
 use Rattle.btf_model.specs.Table.{Table}
 use Rattle.btf_rewrite_model.specs.Made as model
 use Rattle.btf_model.specs.Record.{Record}
-use Rattle.btf_rewrite_model.specs.Made.{Entry, entries, wants_name}
+use Rattle.btf_rewrite_model.specs.Made.{Entry, section_entries, wants_name}
 use Rattle.btf_rewrite_model.specs.Ksyms.{named_parameters, laid_out, entry_type}
 use Rattle.btf_plain.specs.Items.{code_entry_words}
 use Rattle.btf_plain.specs.declared.items.DataSecEntry.{DataSecEntry}
@@ -68,13 +68,13 @@ laid_next t placeholder es i new lt is =
 pub laid_all : (t : Table) (placeholder : Option ℕ) (r : Record) (i : ℕ) (es fs : List DataSecEntry) → r.tail ≡ flat_map code_entry_words es → r.tail ≡ flat_map code_entry_words fs → length es ≤ i
     → record r { third = 4 * length fs; tail = laid_to t placeholder i es } ≡ laid_out_anew t placeholder r
 laid_all t placeholder r i es fs words others end =
-    let items : map model_entry es ≡ entries r.tail = sym (entries_of_words es) ∙ ap entries (sym words) in
-    let count : length fs ≡ length (entries r.tail) = sym (length-map fs model_entry) ∙ ap length (sym (entries_of_words fs) ∙ ap entries (sym others)) in
-    let tail : laid_to t placeholder i es ≡ flat_map model.entry_words (laid_out t placeholder 0 (entries r.tail)) =
+    let items : map model_entry es ≡ section_entries r.tail = sym (entries_of_words es) ∙ ap section_entries (sym words) in
+    let count : length fs ≡ length (section_entries r.tail) = sym (length-map fs model_entry) ∙ ap length (sym (entries_of_words fs) ∙ ap section_entries (sym others)) in
+    let tail : laid_to t placeholder i es ≡ flat_map model.entry_words (laid_out t placeholder 0 (section_entries r.tail)) =
     ap (λ (xs : List DataSecEntry). flat_map model.entry_words (laid_out t placeholder 0 (map model_entry xs)) ++ flat_map code_entry_words (drop i es)) (take_all i es end)
     ∙ ap (λ (xs : List DataSecEntry). flat_map model.entry_words (laid_out t placeholder 0 (map model_entry es)) ++ flat_map code_entry_words xs) (drop_all i es end)
     ∙ append-nil (flat_map model.entry_words (laid_out t placeholder 0 (map model_entry es))) ∙ ap (λ (xs : List Entry). flat_map model.entry_words (laid_out t placeholder 0 xs)) items in
-    ap (λ (n : ℕ). record r { third = 4 * n; tail = laid_to t placeholder i es }) count ∙ ap (λ (xs : List ℕ). record r { third = 4 * length (entries r.tail); tail = xs }) tail
+    ap (λ (n : ℕ). record r { third = 4 * n; tail = laid_to t placeholder i es }) count ∙ ap (λ (xs : List ℕ). record r { third = 4 * length (section_entries r.tail); tail = xs }) tail
 
 -- ---- what does not change
 
@@ -90,5 +90,5 @@ words_len (e ∷ es) = omega (arith, words_len es)
 
 pub laid_same_len : (t : Table) (placeholder : Option ℕ) (r : Record) (es : List DataSecEntry) → r.tail ≡ flat_map code_entry_words es → length (laid_out_anew t placeholder r).tail ≡ length r.tail
 laid_same_len t placeholder r es words =
-    let items : map model_entry es ≡ entries r.tail = sym (entries_of_words es) ∙ ap entries (sym words) in
-    omega (arith, laid_len t placeholder 0 (entries r.tail), ap length (sym items), length-map es model_entry, words_len es, ap length words)
+    let items : map model_entry es ≡ section_entries r.tail = sym (entries_of_words es) ∙ ap section_entries (sym words) in
+    omega (arith, laid_len t placeholder 0 (section_entries r.tail), ap length (sym items), length-map es model_entry, words_len es, ap length words)

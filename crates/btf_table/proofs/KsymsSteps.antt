@@ -24,7 +24,7 @@ use Rattle.btf_model.proofs.Records.{length-spell}
 use Rattle.btf_table.specs.Denied.{AllHaveKinds}
 use Rattle.btf_table.proofs.KnownKinds.{one_more_kind}
 use Rattle.btf_rewrite_model.specs.Made as model
-use Rattle.btf_rewrite_model.specs.Made.{Entry, entries, record_at, c_int}
+use Rattle.btf_rewrite_model.specs.Made.{Entry, section_entries, record_at, c_int}
 use Rattle.btf_rewrite_model.specs.Ksyms.{stepped, ksyms_entries, laid_out, appends_int, each_stepped, ksyms_table, ksyms_fault, int_text, placeholder_checks, data_sec_checks}
 use Rattle.btf_rewrite_model.specs.declared.ksyms_ids.KsymsIds.{KsymsIds}
 use Rattle.btf_records.specs.BtfType.{record_of, fallback_of}
@@ -35,9 +35,9 @@ use Rattle.btf_table.specs.KsymsStep.{step_record, laid_out_anew, kind_and_len, 
 use Rattle.btf_table.proofs.Put.{length-put, put_kept, put_new, inside_more, inside_next}
 
 -- the symbols are the entries of the DATASEC
-symbols_are : (t : Table) (ids : KsymsIds) (id : ℕ) (r : Record) → slice_get t.records id ≡ Some r → id ≡ ids.datasec_id → ksyms_entries t ids ≡ entries r.tail
+symbols_are : (t : Table) (ids : KsymsIds) (id : ℕ) (r : Record) → slice_get t.records id ≡ Some r → id ≡ ids.datasec_id → ksyms_entries t ids ≡ section_entries r.tail
 symbols_are t ids id r at same =
-    ap (λ (n : ℕ). entries (record_at t n).tail) (sym same) ∙ ap (λ (o : Option Record). entries (unwrap_or o unknown).tail) at
+    ap (λ (n : ℕ). section_entries (record_at t n).tail) (sym same) ∙ ap (λ (o : Option Record). section_entries (unwrap_or o unknown).tail) at
 
 -- the DATASEC of the symbols is laid out
 pub section_becomes : (t : Table) (ids : KsymsIds) (id : ℕ) (r : Record) → kind_of r.info ≡ Some kinds.DataSec → slice_get t.records id ≡ Some r → id ≡ ids.datasec_id → step_record t ids id r ≡ laid_out_anew t ids.placeholder_id r

@@ -47,7 +47,7 @@ rewrites_by {X} {Y} view (Err e) old t new k given answers step is reported = re
 
 -- What a rewrite guarantees: needed features are granted, and the old table's meaning is kept.
 pub record Keeps (policy : FillPolicy) (old : Table) (k : Option KsymsIds) (answers : List FeatureAnswer) (new : Table) : Type 0 where
-  pub granted : NeedsAreGranted policy old k answers new
+  pub granted : NeedsAreGranted policy k answers old new
   pub meaning : KeepsMeaning old new
 
 -- a rewrite that succeeds guarantees this

@@ -7,7 +7,7 @@ use Rattle.std.proofs.lemmas.List.Concat.{flat_map-append}
 use Rattle.btf_model.specs.Record.{Record}
 use Rattle.btf_model.specs.Refusal.{Refusal}
 use Rattle.btf_model.specs.Table.{Table}
-use Rattle.btf_rewrite_model.specs.Made.{Entry, entries, byte_int, static_var}
+use Rattle.btf_rewrite_model.specs.Made.{Entry, section_entries, byte_int, static_var}
 use Rattle.btf_rewrite_model.specs.Checks.{Check, first_fault}
 use Rattle.btf_rewrite_model.specs.Rewritten.{with_zero_byte}
 use Rattle.btf_records.specs.BtfType.{record_of}
@@ -65,12 +65,12 @@ one_more_passes checks es i lt before passed =
 
 -- the first entry that does not pass counts
 pub this_one_faults : (checks : Entry → List Check) (tail : List ℕ) (es : List DataSecEntry) (i : ℕ) (refusal : Refusal) → tail ≡ flat_map code_entry_words es → i < length es
-    → first_fault (flat_map checks (map model_entry (take i es))) ≡ None → first_fault (checks (model_entry (at es i))) ≡ Some refusal → first_fault (flat_map checks (entries tail)) ≡ Some refusal
+    → first_fault (flat_map checks (map model_entry (take i es))) ≡ None → first_fault (checks (model_entry (at es i))) ≡ Some refusal → first_fault (flat_map checks (section_entries tail)) ≡ Some refusal
 this_one_faults checks tail es i refusal words lt before faults =
     let e : DataSecEntry = at es i in
     let rest : List DataSecEntry = drop (suc i) es in
     let split : es ≡ take i es ++ e ∷ rest = sym (take-append-drop i es) ∙ ap (λ (xs : List DataSecEntry). take i es ++ xs) (drop-cons es i zero_entry lt) in
-    ap (λ (xs : List Entry). first_fault (flat_map checks xs)) (ap entries words ∙ entries_of_words es ∙ ap (map model_entry) split ∙ map-append model_entry (take i es) (e ∷ rest))
+    ap (λ (xs : List Entry). first_fault (flat_map checks xs)) (ap section_entries words ∙ entries_of_words es ∙ ap (map model_entry) split ∙ map-append model_entry (take i es) (e ∷ rest))
     ∙ ap first_fault (flat_map-append checks (map model_entry (take i es)) (map model_entry (e ∷ rest)))
     ∙ fault_after (flat_map checks (map model_entry (take i es))) (checks (model_entry e) ++ flat_map checks (map model_entry rest)) before ∙ fault_before (checks (model_entry e)) (flat_map checks (map model_entry rest)) refusal faults
 
@@ -87,5 +87,5 @@ one_more_maps f es i old new lt before is =
     ∙ sym (ap (map f) (map_up_to es i lt) ∙ map-append f (map model_entry (take i es)) (model_entry (at es i) ∷ []))
 
 -- after the last entry, all are done
-pub all_entries : (tail : List ℕ) (es : List DataSecEntry) (i : ℕ) → tail ≡ flat_map code_entry_words es → length es ≤ i → map model_entry (take i es) ≡ entries tail
-all_entries tail es i words end = ap (map model_entry) (take_all i es end) ∙ sym (entries_of_words es) ∙ ap entries (sym words)
+pub all_entries : (tail : List ℕ) (es : List DataSecEntry) (i : ℕ) → tail ≡ flat_map code_entry_words es → length es ≤ i → map model_entry (take i es) ≡ section_entries tail
+all_entries tail es i words end = ap (map model_entry) (take_all i es end) ∙ sym (entries_of_words es) ∙ ap section_entries (sym words)

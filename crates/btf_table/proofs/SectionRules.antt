@@ -19,7 +19,7 @@ use Rattle.btf_rewrite_model.specs.declared.feature.BtfFeature.{BtfFeature}
 use Rattle.btf_rewrite_model.specs.declared.feature.FeatureAnswer.{FeatureAnswer}
 use Rattle.btf_rewrite_model.specs.declared.feature.FillPolicy.{FillPolicy}
 use Rattle.btf_rewrite_model.specs.Made as model
-use Rattle.btf_rewrite_model.specs.Made.{entries, record_at, kind_at, byte_int, static_var}
+use Rattle.btf_rewrite_model.specs.Made.{section_entries, record_at, kind_at, byte_int, static_var}
 use Rattle.btf_rewrite_model.specs.Checks.{Check, first_fault, name_is_read, has_room, have_room, fits, record_len}
 use Rattle.btf_rewrite_model.specs.Pass.{Pass, has, name_of, name_checks, sized_asks_zero, unsized_asks_zero, renaming, section_size, size_by_name, is_unsized, is_zero_or, is_positive, gets_filler, makes_filler, least, filler_type_text, filler_text, filler, filler_offset, texts, texts_len, added, free_id, offset_at, type_len_at, wants_member_type, asks, asks_by, asks_below, data_sec_asks}
 use Rattle.btf_rewrite_model.specs.Rule as rule
@@ -172,7 +172,7 @@ module _ (p : Pass) (id : ℕ) (r : Record) (there : IsType p.table id (DataSec 
   unnamed_faults refusal faults = fault_there p id (DataSec r) (Some kinds.DataSec) there kind ∙ fault_before (name_checks p id) _ refusal faults
 
   abbrev rest_by : Bool → Bool → List Check
-  rest_by granted unsized = if granted then (if unsized then completing_checks p id r else filling_checks p id) else flat_map (member_checks p) (entries r.tail)
+  rest_by granted unsized = if granted then (if unsized then completing_checks p id r else filling_checks p id) else flat_map (member_checks p) (section_entries r.tail)
 
   fault_by : (granted unsized : Bool) → first_fault (name_checks p id) ≡ None → has p features.DataSec ≡ granted → (r.third == 0) ≡ unsized → fault p id ≡ first_fault (rest_by granted unsized)
   fault_by granted unsized passed has_it is =
@@ -183,7 +183,7 @@ module _ (p : Pass) (id : ℕ) (r : Record) (there : IsType p.table id (DataSec 
       → (asks p id ≡ features.DataSec ∷ []) × (fault p id ≡ Some refusal)
   size_fault refusal passed granted unsized faults =
       let read = read_name (name_of p id) _ passed in
-      let is = size_faults (name_of p id) (section_size p id) ((if makes_filler p id then filler_checks p id else []) ++ flat_map (entry_checks p) (entries r.tail) ++ growth_checks p id) refusal read.0 faults in
+      let is = size_faults (name_of p id) (section_size p id) ((if makes_filler p id then filler_checks p id else []) ++ flat_map (entry_checks p) (section_entries r.tail) ++ growth_checks p id) refusal read.0 faults in
       (unknown_asks unsized is.1, fault_by true true passed granted unsized ∙ is.0)
 
   pub size_known : (size : ℕ) → first_fault (name_checks p id) ≡ None → first_fault (name_is_read (name_of p id) ∷ is_sized (section_size p id) (name_of p id) ∷ []) ≡ None → size ≡ unwrap_or (section_size p id) 0 → section_size p id ≡ Some size
@@ -215,7 +215,7 @@ module _ (p : Pass) (id : ℕ) (r : Record) (name : ℕ) (before now : Made) (n 
   completed_is = completed p id (unwrap_or (section_size p id) 0) r
 
   abbrev as_struct_is : Record
-  as_struct_is = model.struct (new_name p id r) (vlen r.info) (vlen r.info) (entry_members p (ruled_below p id) id (entries r.tail))
+  as_struct_is = model.struct (new_name p id r) (vlen r.info) (vlen r.info) (entry_members p (ruled_below p id) id (section_entries r.tail))
 
   becomes_if : (granted unsized : Bool) → has p features.DataSec ≡ granted → (r.third == 0) ≡ unsized
       → becomes_by p (ruled_below p id) id (Some kinds.DataSec) r ≡ (if granted then (if unsized then completed_is else rule.sized p id r) else as_struct_is)
@@ -223,14 +223,14 @@ module _ (p : Pass) (id : ℕ) (r : Record) (name : ℕ) (before now : Made) (n 
       ap (λ (b : Bool). if b then (if r.third == 0 then completed_is else rule.sized p id r) else as_struct_is) has_it ∙ ap (λ (b : Bool). if granted then (if b then completed_is else rule.sized p id r) else as_struct_is) is
 
   pub struct_answer : (result : Result (Option BtfType) BtfError) → has p features.DataSec ≡ false
-      → IsOrNoMemory (λ new. record_of (unwrap_or new (DataSec r))) result (checked (first_fault (flat_map (member_checks p) (entries r.tail))) (model.struct name (vlen r.info) (vlen r.info) (entry_members p (ruled_below p id) (length (ruled_below p id)) (entries r.tail))))
+      → IsOrNoMemory (λ new. record_of (unwrap_or new (DataSec r))) result (checked (first_fault (flat_map (member_checks p) (section_entries r.tail))) (model.struct name (vlen r.info) (vlen r.info) (entry_members p (ruled_below p id) (length (ruled_below p id)) (section_entries r.tail))))
       → IfOk result (λ new. fallback_of (unwrap_or new (DataSec r)) ≡ None) → MeetsOrNoMemory (λ new. unwrap_or new (DataSec r)) result (Rules p id (DataSec r) before now)
   struct_answer result denied words fallback =
       let faults = fault_by p id r n.there n.kind false (r.third == 0) n.passed denied refl in
       ruled_answer p id (DataSec r) before now _ _ result words fallback (λ refusal is. faults ∙ is)
       (λ new passed is none. unfilled_ruled new (denied_unfilled p id r n.there n.kind denied) (faults ∙ passed)
-      (is ∙ ap (λ (m : ℕ). model.struct m (vlen r.info) (vlen r.info) (entry_members p (ruled_below p id) (length (ruled_below p id)) (entries r.tail))) (sym n.name_is)
-      ∙ ap (λ (m : ℕ). model.struct (new_name p id r) (vlen r.info) (vlen r.info) (entry_members p (ruled_below p id) m (entries r.tail))) n.here.count
+      (is ∙ ap (λ (m : ℕ). model.struct m (vlen r.info) (vlen r.info) (entry_members p (ruled_below p id) (length (ruled_below p id)) (section_entries r.tail))) (sym n.name_is)
+      ∙ ap (λ (m : ℕ). model.struct (new_name p id r) (vlen r.info) (vlen r.info) (entry_members p (ruled_below p id) m (section_entries r.tail))) n.here.count
       ∙ sym (becomes_if false (r.third == 0) denied refl))
       (ap (λ (x : Record). length x.tail) is ∙ entries_len (λ e. member_name p (ruled_below p id) (length (ruled_below p id)) e.type ∷ e.type ∷ e.offset * 8 ∷ []) (λ e. refl) (vlen r.info) r.tail n.tail) none)
 
@@ -247,31 +247,31 @@ module _ (p : Pass) (id : ℕ) (r : Record) (name : ℕ) (before now : Made) (n 
       ∙ sym (becomes_if true false granted sized ∙ ap (λ (b : Bool). if b then rule.filled p id r.third r else record r { name = new_name p id r }) unfilled)) (ap (λ (x : Record). length x.tail) is) none)
 
   abbrev completed_by : ℕ → Bool → Record
-  completed_by size b = if b then rule.filled p id (max size 1) r else model.made_data_sec (new_name p id r) size (vlen r.info) (map (placed p) (entries r.tail))
+  completed_by size b = if b then rule.filled p id (max size 1) r else model.made_data_sec (new_name p id r) size (vlen r.info) (map (placed p) (section_entries r.tail))
 
   completed_if : (b : Bool) (size : ℕ) → gets_filler p id ≡ b → section_size p id ≡ Some size → completed_is ≡ completed_by size b
   completed_if b size fills known = ap (λ (o : Option ℕ). completed p id (unwrap_or o 0) r) known ∙ ap (completed_by size) fills
 
   -- the tests of a DATASEC whose size is known
   completing_if : (b : Bool) (size : ℕ) → gets_filler p id ≡ b → section_size p id ≡ Some size → has p features.DataSec ≡ true → (r.third == 0) ≡ true
-      → fault p id ≡ first_fault ((if makes_filler p id then filler_checks p id else []) ++ flat_map (entry_checks p) (entries r.tail) ++ (if b then fits (type_len_at p id + sum_by record_len (added p id)) 12 ∷ [] else []))
+      → fault p id ≡ first_fault ((if makes_filler p id then filler_checks p id else []) ++ flat_map (entry_checks p) (section_entries r.tail) ++ (if b then fits (type_len_at p id + sum_by record_len (added p id)) 12 ∷ [] else []))
   completing_if b size fills known granted unsized =
       fault_by p id r n.there n.kind true true n.passed granted unsized
-      ∙ ap (λ (o : Option ℕ). first_fault (is_sized o (name_of p id) ∷ (if makes_filler p id then filler_checks p id else []) ++ flat_map (entry_checks p) (entries r.tail) ++ growth_checks p id)) known
-      ∙ ap (λ (c : Bool). first_fault ((if makes_filler p id then filler_checks p id else []) ++ flat_map (entry_checks p) (entries r.tail) ++ (if c then fits (type_len_at p id + sum_by record_len (added p id)) 12 ∷ [] else []))) fills
+      ∙ ap (λ (o : Option ℕ). first_fault (is_sized o (name_of p id) ∷ (if makes_filler p id then filler_checks p id else []) ++ flat_map (entry_checks p) (section_entries r.tail) ++ growth_checks p id)) known
+      ∙ ap (λ (c : Bool). first_fault ((if makes_filler p id then filler_checks p id else []) ++ flat_map (entry_checks p) (section_entries r.tail) ++ (if c then fits (type_len_at p id + sum_by record_len (added p id)) 12 ∷ [] else []))) fills
 
   pub laid_answer : (size : ℕ) (result : Result (Option BtfType) BtfError) → has p features.DataSec ≡ true → (r.third == 0) ≡ true → gets_filler p id ≡ false → section_size p id ≡ Some size
-      → IsOrNoMemory (λ new. record_of (unwrap_or new (DataSec r))) result (checked (first_fault (flat_map (entry_checks p) (entries r.tail))) (model.made_data_sec name size (vlen r.info) (map (placed p) (entries r.tail))))
+      → IsOrNoMemory (λ new. record_of (unwrap_or new (DataSec r))) result (checked (first_fault (flat_map (entry_checks p) (section_entries r.tail))) (model.made_data_sec name size (vlen r.info) (map (placed p) (section_entries r.tail))))
       → IfOk result (λ new. fallback_of (unwrap_or new (DataSec r)) ≡ None) → MeetsOrNoMemory (λ new. unwrap_or new (DataSec r)) result (Rules p id (DataSec r) before now)
   laid_answer size result granted unsized unfilled known words fallback =
       let makes : makes_filler p id ≡ false = ap (λ (b : Bool). b && (least (gets_filler p) id == id)) unfilled in
-      let faults : fault p id ≡ first_fault (flat_map (entry_checks p) (entries r.tail)) =
+      let faults : fault p id ≡ first_fault (flat_map (entry_checks p) (section_entries r.tail)) =
       completing_if false size unfilled known granted unsized
-      ∙ ap (λ (b : Bool). first_fault ((if b then filler_checks p id else []) ++ flat_map (entry_checks p) (entries r.tail) ++ [])) makes ∙ ap first_fault (append-nil (flat_map (entry_checks p) (entries r.tail))) in
+      ∙ ap (λ (b : Bool). first_fault ((if b then filler_checks p id else []) ++ flat_map (entry_checks p) (section_entries r.tail) ++ [])) makes ∙ ap first_fault (append-nil (flat_map (entry_checks p) (section_entries r.tail))) in
       ruled_answer p id (DataSec r) before now _ _ result words fallback (λ refusal is. faults ∙ is)
       (λ new passed is none. unfilled_ruled new unfilled (faults ∙ passed)
-      (is ∙ ap (λ (m : ℕ). model.made_data_sec m size (vlen r.info) (map (placed p) (entries r.tail))) (sym n.name_is) ∙ sym (becomes_if true true granted unsized ∙ completed_if false size unfilled known))
-      (ap (λ (x : Record). length x.tail) is ∙ ap length (flat_map-map model.entry_words (placed p) (entries r.tail)) ∙ entries_len (λ e. model.entry_words (placed p e)) (λ e. refl) (vlen r.info) r.tail n.tail) none)
+      (is ∙ ap (λ (m : ℕ). model.made_data_sec m size (vlen r.info) (map (placed p) (section_entries r.tail))) (sym n.name_is) ∙ sym (becomes_if true true granted unsized ∙ completed_if false size unfilled known))
+      (ap (λ (x : Record). length x.tail) is ∙ ap length (flat_map-map model.entry_words (placed p) (section_entries r.tail)) ∙ entries_len (λ e. model.entry_words (placed p e)) (λ e. refl) (vlen r.info) r.tail n.tail) none)
 
 -- ---- one that gets the filler
 
@@ -388,7 +388,7 @@ module _ (p : Pass) (id : ℕ) (r : Record) (name : ℕ) (before now : Made) (n 
         elim (r.third == 0) as (λ (z : Bool). (r.third == 0) ≡ z → fault p id ≡ first_fault (first_checks ++ [] ++ last_checks)) [
           | true ↦ λ is.
               completing_if p id r name before now n true size fills (size_of true is) parts.granted is
-              ∙ ap (λ (words : List ℕ). first_fault (first_checks ++ flat_map (entry_checks p) (entries words) ++ last_checks)) tail_none
+              ∙ ap (λ (words : List ℕ). first_fault (first_checks ++ flat_map (entry_checks p) (section_entries words) ++ last_checks)) tail_none
           | false ↦ λ is.
               fault_by p id r n.there n.kind true false n.passed parts.granted is ∙ ap (λ (b : Bool). first_fault (first_checks ++ (if b then last_checks else []))) fills
               ∙ ap (λ (cs : List Check). first_fault (cs ++ last_checks)) (sym (append-nil first_checks))

@@ -29,7 +29,7 @@ ReadsHeader bytes endianness result =
 
 -- The result is the bytes of a section whose offset counts from the end of the header; None if they exceed the
 -- bytes.
-abbrev pub IsSection : List ℕ → ℕ → ℕ → ℕ → Option (Bor (List ℕ)) → Type 0
-IsSection bytes hdr_len offset len result =
+abbrev pub IsSectionAt : List ℕ → ℕ → ℕ → ℕ → Option (Bor (List ℕ)) → Type 0
+IsSectionAt bytes hdr_len offset len result =
     MatchOption result (length bytes < hdr_len + offset + len)
     (λ s. (hdr_len + offset + len ≤ length bytes) × (s.now ≡ slice (hdr_len + offset) len bytes))

@@ -9,7 +9,7 @@ use Rattle.btf_model.specs.Record.{Kind, Record, kind_of}
 use Rattle.btf_model.specs.Refusal.{Refusal}
 use Rattle.btf_model.specs.Table.{Table}
 use Rattle.btf_rewrite_model.specs.Checks.{first_fault}
-use Rattle.btf_rewrite_model.specs.Made.{Entry, entries, entry_words, record_at, kind_at}
+use Rattle.btf_rewrite_model.specs.Made.{Entry, section_entries, entry_words, record_at, kind_at}
 use Rattle.btf_rewrite_model.specs.Ksyms.{is_func, symbol_type, appends_int, ksyms_entry_checks, laid_out, ksyms_entries, stepped, ksyms_fault, ksyms_table}
 use Rattle.btf_rewrite_model.specs.declared.ksyms_ids.KsymsIds.{KsymsIds}
 use Rattle.btf_plain.specs.declared.items.DataSecEntry.{DataSecEntry}
@@ -41,8 +41,8 @@ symbol_target t placeholder = record {
 -- a DATASEC with a new layout of its entries
 abbrev pub laid_out_anew : Table → Option ℕ → Record → Record
 laid_out_anew t placeholder r = record r {
-  third = 4 * length (entries r.tail);
-  tail = flat_map entry_words (laid_out t placeholder 0 (entries r.tail));
+  third = 4 * length (section_entries r.tail);
+  tail = flat_map entry_words (laid_out t placeholder 0 (section_entries r.tail));
 }
 
 -- an entry of the code as an entry of the definitions
@@ -138,8 +138,8 @@ IsLaidOutLike own btf data_sec result =
     → IfOk result (λ s. IsLike (types.DataSec data_sec) (types.DataSec s))
 
 -- The result is the DATASEC of `.ksyms` with its entries one after another.
-abbrev pub IsLaidOut : Target → Table → Record → Result Record BtfError → Type 0
-IsLaidOut own btf data_sec result =
+abbrev pub IsLaidOutAnew : Target → Table → Record → Result Record BtfError → Type 0
+IsLaidOutAnew own btf data_sec result =
     (placeholder : Option ℕ) → own ≡ symbol_target btf placeholder
     → IsOrNoMemory (λ s. s) result (Ok (laid_out_anew btf placeholder data_sec))
 

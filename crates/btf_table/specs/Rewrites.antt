@@ -1,5 +1,6 @@
 -- What a rewrite returns.
-use Rattle.std.specs.Prelude.{◌≡◌, ◌≢◌, ◌≤◌, ◌+◌, ◌⊎◌, ℕ, suc, List, [], length, map, slice_get, Option, Some, None, Result, Ok, Err, String}
+use Rattle.std.specs.Prelude.{◌≡◌, ◌≢◌, ◌≤◌, ◌+◌, ◌⊎◌, ℕ, suc, List, [], length, map, slice_get, Option, Some, None, Result, Ok, Err, String, Unit}
+use Rattle.std.specs.Global.{Vec}
 use Rattle.std.specs.HashMap.{HashMap}
 use Rattle.btf_model.specs.Record as kinds
 use Rattle.btf_model.specs.Record.{Record}
@@ -19,6 +20,9 @@ use Rattle.btf_rewrite_model.specs.Pass.{Pass, Layout, asks_below, each_once, As
 use Rattle.btf_rewrite_model.specs.Rewritten.{begun, pass_of, step_fault, FaultsAt, Rewritten, rewritten, AreRuled, old_count}
 use Rattle.btf_rewrite_model.specs.declared.ksyms_ids.KsymsIds.{KsymsIds}
 use Rattle.btf_plain.specs.declared.section_index.SectionIndex.{SectionIndex}
+use Rattle.btf_plain.specs.declared.error.BtfError.{BtfError}
+use Rattle.btf_plain.specs.Error.{MeetsOrNoMemory}
+use Rattle.arrayvec.specs.declared.array_vec.ArrayVec.{ArrayVec}
 use Rattle.btf_table.specs.Layout.{layout_of}
 use Rattle.btf_table.specs.PassStep.{BeginsAsked}
 
@@ -67,6 +71,17 @@ RewritesBytes w order bytes answers (Err refusal) =
     (IsRefusal order bytes refusal × (answers ≡ []))
     ⊎ ((old : Table) × IsTable order bytes old × Refuses w old answers refusal)
 
+-- The rewrite of a table returns its answers, or its refusal, or no memory.
+abbrev pub EndsRewriting : Rewrite → Table → List FeatureAnswer → Table
+    → Result (ArrayVec FeatureAnswer 8 (Unit {0})) BtfError → Type 0
+EndsRewriting w old answers new result = MeetsOrNoMemory (λ a. a.items) result (Rewrites w old answers new)
+
+-- The rewrite of the bytes of a table returns the new bytes and its answers, or the refusal, or no memory.
+abbrev pub EndsRewritingBytes : Rewrite → Endianness → List ℕ → List FeatureAnswer
+    → Result (Vec ℕ × ArrayVec FeatureAnswer 8 (Unit {0})) BtfError → Type 0
+EndsRewritingBytes w order bytes answers result =
+    MeetsOrNoMemory (λ r. (r.0.items, r.1.items)) result (RewritesBytes w order bytes answers)
+
 -- A pass without the step of `.ksyms`: the rewritten table, or why the pass is refused.
 abbrev pub Sanitizes : {X : Type 0} → Pass → Table → Result X Refusal → Type 0
 Sanitizes p new (Ok x) = AreRuled p (old_count p) × (new ≡ rewritten p) × (features_asked p.answers ≡ Asked p)
@@ -74,8 +89,8 @@ Sanitizes p new (Err refusal) =
     (id : ℕ) × FaultsAt p id refusal × (features_asked p.answers ≡ each_once (asks_below p (suc id)))
 
 -- Each feature that the kernel needs for the new table was asked for once and granted.
-abbrev pub NeedsAreGranted : FillPolicy → Table → Option KsymsIds → List FeatureAnswer → Table → Type 0
-NeedsAreGranted policy old ids answers new =
+abbrev pub NeedsAreGranted : FillPolicy → Option KsymsIds → List FeatureAnswer → Table → Table → Type 0
+NeedsAreGranted policy ids answers old new =
     (id : ℕ) (r : Record) → slice_get new.records id ≡ Some r → (f : BtfFeature)
     → IsAmong f (needs policy (record_at (begun old ids) id) r) → IsGrantedOnce answers f
 

@@ -10,7 +10,7 @@ use Rattle.btf_rewrite_model.specs.Rule.{entry_members, placed, name_or}
 use Rattle.btf_rewrite_model.specs.Checks.{first_fault, name_is_read, have_room, in_a_word}
 use Rattle.btf_rewrite_model.specs.Fault.{member_checks, is_placed, entry_checks, is_sized}
 use Rattle.btf_table.specs.KsymsStep.{model_entry as entry_of}
-use Rattle.btf_rewrite_model.specs.Made.{entries, Entry}
+use Rattle.btf_rewrite_model.specs.Made.{section_entries, Entry}
 use Rattle.std.specs.List.{flat_map}
 use Rattle.btf_model.specs.Table.{Table}
 use Rattle.std.specs.Option.{unwrap_or}
@@ -31,8 +31,8 @@ use Rattle.btf_plain.specs.declared.items.BtfMember.{BtfMember}
 use Rattle.btf_plain.specs.Items.{member_words}
 
 -- the names are those of these records
-abbrev pub AreNames : List ℕ → List Record → Type 0
-AreNames names rs = names ≡ map (λ (r : Record). r.name) rs
+abbrev pub AreNamesOf : List ℕ → List Record → Type 0
+AreNamesOf names rs = names ≡ map (λ (r : Record). r.name) rs
 
 -- The words of the member that an entry becomes, or the first reason to refuse the entry.
 abbrev pub member_made : Pass → List Record → DataSecEntry → Result (List ℕ) Refusal
@@ -43,8 +43,8 @@ member_made p lower entry =
 -- The words of the members that the entries of a DATASEC become, or the first reason to refuse an entry.
 abbrev pub members_made : Pass → List Record → Record → Result (List ℕ) Refusal
 members_made p lower data_sec =
-    checked (first_fault (flat_map (member_checks p) (entries data_sec.tail)))
-    (entry_members p lower (length lower) (entries data_sec.tail))
+    checked (first_fault (flat_map (member_checks p) (section_entries data_sec.tail)))
+    (entry_members p lower (length lower) (section_entries data_sec.tail))
 
 -- The offset of the symbol whose name is at a string offset, or why it isn't known.
 abbrev pub symbol_offset_at : Pass → Table → ℕ → Result ℕ Refusal
@@ -60,18 +60,18 @@ entry_placed p entry = checked (first_fault (entry_checks p (entry_of entry))) (
 -- The entries of a DATASEC at the offsets of their symbols, or the first reason to refuse an entry.
 abbrev pub entries_placed : Pass → Record → Result (List Entry) Refusal
 entries_placed p data_sec =
-    checked (first_fault (flat_map (entry_checks p) (entries data_sec.tail)))
-    (map (placed p) (entries data_sec.tail))
+    checked (first_fault (flat_map (entry_checks p) (section_entries data_sec.tail)))
+    (map (placed p) (section_entries data_sec.tail))
 
 -- Whenever these are the names of the lower ids, the result is the STRUCT of this name that a DATASEC becomes, or
 -- the first reason to refuse an entry.
 abbrev pub BecomesStruct : Table → List ℕ → Record → ℕ → Result (Option BtfType) BtfError → Type 0
 BecomesStruct btf names data_sec name_offset result =
-    (p : Pass) (lower : List Record) → p.table ≡ btf → AreNames names lower
+    (p : Pass) (lower : List Record) → p.table ≡ btf → AreNamesOf names lower
     → IsOrNoMemory (λ new. record_of (unwrap_or new (types.DataSec data_sec))) result
-    (checked (first_fault (flat_map (member_checks p) (entries data_sec.tail)))
+    (checked (first_fault (flat_map (member_checks p) (section_entries data_sec.tail)))
     (model.struct name_offset (vlen data_sec.info) (vlen data_sec.info)
-    (entry_members p lower (length lower) (entries data_sec.tail))))
+    (entry_members p lower (length lower) (section_entries data_sec.tail))))
 
 -- For a DATASEC of size 0, the result is the size of its section, or why it isn't known.
 abbrev pub IsSectionSize : Table → Record → (List ℕ → Option ℕ) → Result ℕ BtfError → Type 0
@@ -98,8 +98,8 @@ abbrev pub HasSymbolOffsets : Table → Record → ℕ → ℕ → (List ℕ →
 HasSymbolOffsets btf data_sec name_offset size offsets result =
     (p : Pass) → p.table ≡ btf → p.layout.symbols ≡ offsets
     → IsOrNoMemory (λ new. record_of (unwrap_or new (types.DataSec data_sec))) result
-    (checked (first_fault (flat_map (entry_checks p) (entries data_sec.tail)))
-    (model.made_data_sec name_offset size (vlen data_sec.info) (map (placed p) (entries data_sec.tail))))
+    (checked (first_fault (flat_map (entry_checks p) (section_entries data_sec.tail)))
+    (model.made_data_sec name_offset size (vlen data_sec.info) (map (placed p) (section_entries data_sec.tail))))
 
 -- The string offset of the new name of a DATASEC, or why it can't be read or does not fit.
 abbrev pub new_name_offset : Pass → Table → Changes → Record → Result ℕ Refusal
@@ -143,14 +143,14 @@ IsNewName btf changes data_sec granted result =
 -- reason to refuse the entry.
 abbrev pub IsMember : Table → List ℕ → DataSecEntry → Result BtfMember BtfError → Type 0
 IsMember btf names entry result =
-    (p : Pass) (lower : List Record) → p.table ≡ btf → AreNames names lower
+    (p : Pass) (lower : List Record) → p.table ≡ btf → AreNamesOf names lower
     → IsOrNoMemory member_words result (member_made p lower entry)
 
 -- Whenever these are the names of the lower ids, the result's words are those of the members that the entries of a
 -- DATASEC become, or it is the first reason to refuse an entry.
 abbrev pub AreMembers : {X : Type 0} → Table → List ℕ → Record → (X → List ℕ) → Result X BtfError → Type 0
 AreMembers btf names data_sec words_of result =
-    (p : Pass) (lower : List Record) → p.table ≡ btf → AreNames names lower
+    (p : Pass) (lower : List Record) → p.table ≡ btf → AreNamesOf names lower
     → IsOrNoMemory words_of result (members_made p lower data_sec)
 
 -- The result is the entries of a DATASEC at the offsets of their symbols, or the first reason to refuse an entry.

@@ -23,7 +23,7 @@ ghost use Rattle.btf_table.specs.Checked.{checked};
 ghost use Rattle.btf_table.specs.Features.{Called};
 ghost use Rattle.btf_table.specs.KsymsStep.{ksyms_ids};
 ghost use Rattle.btf_table.specs.PassStep.{pass_on, given_by, BeginsAsked};
-ghost use Rattle.btf_table.specs.Rewrites.{rewrite_of, pass_for, Rewrites, RewritesBytes, Sanitizes, NeedsAreGranted, KeepsTypes, KeepsMeaning, AppendsAtMost, BeginsAskedOf, OfTables};
+ghost use Rattle.btf_table.specs.Rewrites.{rewrite_of, pass_for, EndsRewriting, EndsRewritingBytes, Sanitizes, NeedsAreGranted, KeepsTypes, KeepsMeaning, AppendsAtMost, BeginsAskedOf, OfTables};
 
 pub use crate::sanitize::data_sec::known_offset;
 pub use crate::sanitize::features::BtfFeatureResolver;
@@ -132,14 +132,13 @@ impl Btf {
             (rewrite_of KeepSized ksyms sections.now symbols.now) self.old resolver.new.answers) }
         // On success the table is the rewritten one, and all features were asked for; otherwise the first error is
         // returned.
-        ensures rewrites { MeetsOrNoMemory (λ a. a.items) result
-            (Rewrites (rewrite_of KeepSized ksyms sections.now symbols.now) self.old
-            resolver.new.answers self.new) }
+        ensures rewrites { EndsRewriting (rewrite_of KeepSized ksyms sections.now symbols.now)
+            self.old resolver.new.answers self.new result }
         ensures answers { IfOk result (λ a. a.items ≡ resolver.new.answers) }
         ensures err { OnErr result (self.new ≡ self.old) }
         // Each feature that the kernel needs for the new table was asked for once and granted.
-        ensures granted { OnOk result (NeedsAreGranted KeepSized self.old ksyms
-            resolver.new.answers self.new) }
+        ensures granted { OnOk result (NeedsAreGranted KeepSized ksyms resolver.new.answers
+            self.old self.new) }
         // The record states which sizes, resolutions and values of variants are unchanged, and that at most four types
         // are appended.
         ensures kept { OnOk result (KeepsMeaning self.old self.new) }
@@ -174,14 +173,13 @@ impl Btf {
             (rewrite_of policy ksyms sections.now symbols.now) self.old resolver.new.answers) }
         // On success the table is the rewritten one, and all features were asked for; otherwise the first error is
         // returned.
-        ensures rewrites { MeetsOrNoMemory (λ a. a.items) result
-            (Rewrites (rewrite_of policy ksyms sections.now symbols.now) self.old
-            resolver.new.answers self.new) }
+        ensures rewrites { EndsRewriting (rewrite_of policy ksyms sections.now symbols.now)
+            self.old resolver.new.answers self.new result }
         ensures answers { IfOk result (λ a. a.items ≡ resolver.new.answers) }
         ensures err { OnErr result (self.new ≡ self.old) }
         // Each feature that the kernel needs for the new table was asked for once and granted.
-        ensures granted { OnOk result (NeedsAreGranted policy self.old
-            ksyms resolver.new.answers self.new) }
+        ensures granted { OnOk result (NeedsAreGranted policy ksyms resolver.new.answers
+            self.old self.new) }
         // The record states which sizes, resolutions and values of variants are unchanged, and that at most four types
         // are appended.
         ensures kept { OnOk result (KeepsMeaning self.old self.new) }
@@ -222,9 +220,8 @@ pub fn rewrite_bytes<F: FnMut(BtfFeature) -> bool>(
     ensures callable { F.IsAlwaysCallable resolver.new.predicate }
     ensures called { Called F.step resolver.old.predicate resolver.new.answers
         resolver.new.predicate }
-    ensures rewrites { MeetsOrNoMemory (λ r. (r.0.items, r.1.items)) result
-        (RewritesBytes (rewrite_of KeepSized ksyms sections.now symbols.now)
-        endianness «data».now resolver.new.answers) }
+    ensures rewrites { EndsRewritingBytes (rewrite_of KeepSized ksyms sections.now symbols.now)
+        endianness «data».now resolver.new.answers result }
     ensures answers { IfOk result (λ r. r.1.items ≡ resolver.new.answers) }
     // In every outcome there are no answers, or the bytes represent a table and the answers are to the first features
     // that its rewrite asks for.
@@ -233,7 +230,7 @@ pub fn rewrite_bytes<F: FnMut(BtfFeature) -> bool>(
     // For the table that the bytes represent and the table that the written bytes represent: each feature that the
     // kernel needs for the new table was asked for once and granted;
     ensures granted { IfOk result (λ r. OfTables endianness «data».now r.0.items
-        (λ old new. NeedsAreGranted KeepSized old ksyms resolver.new.answers new)) }
+        (NeedsAreGranted KeepSized ksyms resolver.new.answers)) }
     // the record states which sizes and resolutions are unchanged, and that at most four types are appended.
     ensures kept { IfOk result (λ r. OfTables endianness «data».now r.0.items KeepsTypes) }
 {
@@ -261,9 +258,8 @@ pub fn rewrite_bytes_with<F: FnMut(BtfFeature) -> bool, G: BuildHasher, H: Build
     ensures callable { F.IsAlwaysCallable resolver.new.predicate }
     ensures called { Called F.step resolver.old.predicate resolver.new.answers
         resolver.new.predicate }
-    ensures rewrites { MeetsOrNoMemory (λ r. (r.0.items, r.1.items)) result
-        (RewritesBytes (rewrite_of policy ksyms sections.now symbols.now)
-        endianness «data».now resolver.new.answers) }
+    ensures rewrites { EndsRewritingBytes (rewrite_of policy ksyms sections.now symbols.now)
+        endianness «data».now resolver.new.answers result }
     ensures answers { IfOk result (λ r. r.1.items ≡ resolver.new.answers) }
     // In every outcome there are no answers, or the bytes represent a table and the answers are to the first features
     // that its rewrite asks for.
@@ -272,8 +268,7 @@ pub fn rewrite_bytes_with<F: FnMut(BtfFeature) -> bool, G: BuildHasher, H: Build
     // For the table that the bytes represent and the table that the written bytes represent: each feature that the
     // kernel needs for the new table was asked for once and granted;
     ensures granted { IfOk result (λ r. OfTables endianness «data».now r.0.items
-        (λ old new. NeedsAreGranted policy old ksyms
-        resolver.new.answers new)) }
+        (NeedsAreGranted policy ksyms resolver.new.answers)) }
     // the record states which sizes and resolutions are unchanged, and that at most four types are appended.
     ensures kept { IfOk result (λ r. OfTables endianness «data».now r.0.items KeepsTypes) }
 {

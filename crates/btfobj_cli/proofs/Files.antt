@@ -8,7 +8,7 @@ use Rattle.btf_model.specs.Table.{Table}
 use Rattle.btf_elf_model.specs.Object as elf
 use Rattle.btf_rewrite_model.specs.declared.feature.FeatureAnswer.{FeatureAnswer}
 use Rattle.btfobj_cli.specs.InputFile.{BeginsObject, BeginsTable, HasFileTable, IsFile, IsTableAlone, is_object}
-use Rattle.btfobj_cli.specs.Rewrite.{chosen_target, RewritesAlone, RewritesTable, RewritesObject, RewritesFile, IsRewritten}
+use Rattle.btfobj_cli.specs.Rewrite.{chosen_target, RewritesAlone, RewritesTableAlone, RewritesObject, RewritesFile, IsRewritten}
 use Rattle.btfobj_cli.specs.declared.input_file.InputFile.{InputFile}
 use Rattle.btfobj_cli.specs.declared.input_file.InputFile.TheVariants as inputs
 use Rattle.btfobj_cli.specs.declared.rewrite.Rewrite.{Rewrite}
@@ -30,6 +30,6 @@ rewritten_file bytes rewrite (inputs.Table own order) file answers is begins lit
 
 -- the rewrite of the table of a file that is a table alone is the rewrite of the file
 pub rewritten_table : (input : InputFile) (rewrite : Rewrite) (old : Table) (file : List ℕ) (answers : List FeatureAnswer) → is_object input ≡ false → HasFileTable input old
-    → RewritesTable old (chosen_target rewrite) file answers → RewritesFile input rewrite file answers
+    → RewritesTableAlone old (chosen_target rewrite) file answers → RewritesFile input rewrite file answers
 rewritten_table (inputs.Object object) rewrite old file answers is has made = absurd (false≢true (sym is))
 rewritten_table (inputs.Table own order) rewrite old file answers is has made = made order own.now (subst (λ (bs : List ℕ). model.IsTable order bs old) has.1 has.2)

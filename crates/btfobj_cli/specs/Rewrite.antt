@@ -4,7 +4,7 @@ use Rattle.std.specs.Option.{option_map}
 use Rattle.btf_model.specs.Blob.{IsTable, canon}
 use Rattle.btf_model.specs.Table.{Table, strip}
 use Rattle.btf_model.specs.declared.endianness.Endianness.{Endianness}
-use Rattle.btf_rewrite_model.specs.Pass.{Layout, Asked}
+use Rattle.btf_rewrite_model.specs.Pass.{no_layout, Asked}
 use Rattle.btf_rewrite_model.specs.Rewritten.{Rewritten, pass_of}
 use Rattle.btf_rewrite_model.specs.declared.feature.FeatureAnswer.{FeatureAnswer}
 use Rattle.btf_rewrite_model.specs.declared.ksyms_ids.KsymsIds.{KsymsIds}
@@ -23,10 +23,6 @@ use Rattle.btfobj_cli.specs.declared.rewrite.Rewrite.{Rewrite}
 abbrev pub chosen_target : Rewrite → Target
 chosen_target rewrite = target_of rewrite.kernel rewrite.policy (option_map (λ name. name.now) rewrite.placeholder)
 
--- the layout of a table alone: no section has a size, and no symbol has an offset
-abbrev pub no_layout : Layout
-no_layout = record { sections = λ name. None; symbols = λ name. None }
-
 -- The bytes represent a table. The file is the written form of its rewrite for the target, and parses back to that.
 pub record RewritesAlone (order : Endianness) (bytes : List ℕ) (target : Target) (file : List ℕ)
     (answers : List FeatureAnswer) : Type 0 where
@@ -41,8 +37,8 @@ pub record RewritesAlone (order : Endianness) (bytes : List ℕ) (target : Targe
   pub parses_back : IsTable order file (strip new)
 
 -- Whatever bytes represent the table, the file is their rewrite for the target.
-abbrev pub RewritesTable : Table → Target → List ℕ → List FeatureAnswer → Type 0
-RewritesTable old target file answers =
+abbrev pub RewritesTableAlone : Table → Target → List ℕ → List FeatureAnswer → Type 0
+RewritesTableAlone old target file answers =
     (order : Endianness) → (bytes : List ℕ) → IsTable order bytes old → RewritesAlone order bytes target file answers
 
 -- The file is the object with its table rewritten: after it is finalized, or as it is.

@@ -4,7 +4,7 @@ ghost use Rattle.std.specs.Prelude.{◌≡◌, ℕ, List, None, IfOk};
 ghost use Rattle.btf_object.specs.Kernel.{kernel_has};
 ghost use Rattle.btf_table.specs.Layout.{sizes_of, offsets_of};
 ghost use Rattle.btfobj_cli.specs.InputFile.{HasFileTable, IsTableOf};
-ghost use Rattle.btfobj_cli.specs.Rewrite.{chosen_target, RewritesTable, RewritesObject, RewritesFile, IsRewritten};
+ghost use Rattle.btfobj_cli.specs.Rewrite.{chosen_target, RewritesTableAlone, RewritesObject, RewritesFile, IsRewritten};
 
 use crate::fault::Fault;
 use crate::input_file::InputFile;
@@ -140,7 +140,7 @@ fn sanitize_table(
     rewrite: &Rewrite<'_>,
 ) -> Result<(Vec<u8>, ArrayVec<FeatureAnswer, 8>), Fault>
     ensures { IfOk result (λ r.
-        RewritesTable table (chosen_target rewrite.now) r.0.items r.1.items) }
+        RewritesTableAlone table (chosen_target rewrite.now) r.0.items r.1.items) }
 {
     let ids = ksyms_of(&table, rewrite.placeholder)?;
     let sections = no_sections(alloc);

@@ -77,11 +77,11 @@ for_handle features policy ids t old l layout n new r same_old same_layout same_
 
 -- the features that the answers grant, of equal answers, policies and ids
 pub granted_for : (policy other : FillPolicy) (old new : Table) (ids same : Option KsymsIds) (asked : List FeatureAnswer) (r : Result (ArrayVec FeatureAnswer 8 (Unit {0})) BtfError)
-    → policy ≡ other → ids ≡ same → IfOk r (λ a. a.items ≡ asked) → OnOk r (NeedsAreGranted policy old ids asked new)
-    → IfOk r (λ a. NeedsAreGranted other old same a.items new)
+    → policy ≡ other → ids ≡ same → IfOk r (λ a. a.items ≡ asked) → OnOk r (NeedsAreGranted policy ids asked old new)
+    → IfOk r (λ a. NeedsAreGranted other same a.items old new)
 granted_for policy other old new ids same asked (Ok a) p i is granted =
-    subst (λ x. NeedsAreGranted x old same a.items new) p
-    (subst (λ x. NeedsAreGranted policy old x a.items new) i (subst (λ x. NeedsAreGranted policy old ids x new) (sym is) granted))
+    subst (λ x. NeedsAreGranted x same a.items old new) p
+    (subst (λ x. NeedsAreGranted policy x a.items old new) i (subst (λ x. NeedsAreGranted policy ids x old new) (sym is) granted))
 granted_for policy other old new ids same asked (Err e) p i is granted = tt
 
 pub carried : (R : Table → Table → Type 0) (t old n new : Table) → t ≡ old → new ≡ n → R t n → R old new

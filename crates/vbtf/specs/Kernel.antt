@@ -70,7 +70,7 @@ ReportsAsked kernel layout old asked =
 abbrev pub ReportsGranted : Kernel → Table → Table → Asked → Type 0
 ReportsGranted kernel old new asked =
     (listed : List FeatureAnswer) × ListsAnswers asked listed
-    × NeedsAreGranted (policy_chosen kernel) old (ids_chosen kernel) listed new
+    × NeedsAreGranted (policy_chosen kernel) (ids_chosen kernel) listed old new
 
 -- The outcomes of a rewrite for C: status 0, and the handle owns the rewritten table; or an error or a failed
 -- allocation, and the handle owns the unchanged table, whose index may be closed.

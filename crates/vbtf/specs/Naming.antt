@@ -25,7 +25,7 @@ EndsNaming status strings offset life len name fault =
     ⊎ ((bytes_at strings offset ≡ None) × ReportsRefusal status fault (InvalidStringOffset offset))
 
 -- The strings of a table up to and with their last zero byte are lent for this lifetime.
-pub record AreNames (strings : List ℕ) (life : ℕ) (names : Name) : Type 0 where
+pub record AreLentNames (strings : List ℕ) (life : ℕ) (names : Name) : Type 0 where
   pub bytes : AreNamesFrom strings 0 names.bytes
   pub len_is : names.len ≡ length names.bytes
   pub life_is : names.life ≡ life

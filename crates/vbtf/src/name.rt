@@ -5,7 +5,7 @@ ghost use Rattle.std.specs.List.{filter};
 ghost use Rattle.std.specs.Option.{option_map};
 ghost use Rattle.btf_model.specs.Text.{bytes_at, is_zero};
 ghost use Rattle.vbtf.specs.Lent.{AreNamesFrom};
-ghost use Rattle.vbtf.specs.Naming.{AreNames, EndsNaming};
+ghost use Rattle.vbtf.specs.Naming.{AreLentNames, EndsNaming};
 ghost use Rattle.vbtf.specs.Status.{KeepsHandle};
 
 use crate::fault::{CLOSED, Fault, report};
@@ -54,7 +54,7 @@ pub extern "C" fn vbtf_lent_name(
 #[unsafe(no_mangle)]
 pub extern "C" fn vbtf_lent_names(table: &mut Handle, names: &mut Name) -> u32
     ensures lent { table.old.state ≡ 2 → (result ≡ 0)
-        × AreNames table.old.opened.btf.strings table.old.life names.new }
+        × AreLentNames table.old.opened.btf.strings table.old.life names.new }
     ensures closed { table.old.state ≢ 2 → result ≡ CLOSED }
     ensures kept { KeepsHandle table.old table.new }
 {

@@ -91,8 +91,8 @@ fn rewrite(
     ensures listed { IfOk result (λ a. ListsAnswers asked.new a.items) }
     ensures asked { ReportsAsked kernel.now
         (layout_of program.now.sections program.now.symbols) btf.old asked.new }
-    ensures granted { IfOk result (λ a. NeedsAreGranted (policy_chosen kernel.now) btf.old
-        (ids_chosen kernel.now) a.items btf.new) }
+    ensures granted { IfOk result (λ a. NeedsAreGranted (policy_chosen kernel.now)
+        (ids_chosen kernel.now) a.items btf.old btf.new) }
     ensures kept { OnOk result (KeepsMeaning btf.old btf.new) }
 {
     let is_granted = |feature: BtfFeature| -> bool

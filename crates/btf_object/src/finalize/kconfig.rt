@@ -3,7 +3,7 @@
 ghost use Rattle.btf_model.specs.Record.{vlen};
 ghost use Rattle.std.specs.Prelude.{◌≡◌, ◌<◌, ◌≤◌, ◌^◌, [], ◌∷◌, false, length, map, IfOk, IfErr, IfSome, IfNone, OnOk};
 ghost use Rattle.std.specs.Option.{option_map};
-ghost use Rattle.btf_rewrite_model.specs.Made.{entries};
+ghost use Rattle.btf_rewrite_model.specs.Made.{section_entries};
 ghost use Rattle.btf_table.specs.KsymsStep.{model_entry as entry_of};
 ghost use Rattle.btf_object_model.specs.Kconfig as model;
 ghost use Rattle.btf_object_model.specs.Kconfig.{FindsText, FindsValue, FindsExtern, FindsExterns, IsConfigured, total};
@@ -120,7 +120,7 @@ fn externs_of<'a>(
     btf: &'a Btf,
     data_sec: &'a DataSec,
 ) -> Result<Option<Vec<Extern<'a>>>, AllocError>
-    ensures known { IfOk result (λ found. FindsExterns btf.now (entries data_sec.now.tail)
+    ensures known { IfOk result (λ found. FindsExterns btf.now (section_entries data_sec.now.tail)
         (option_map (λ v. map model_extern v.items) found)) }
     ensures count { IfOk result (λ found. IfSome found
         (λ v. length v.items ≡ vlen data_sec.now.info)) }

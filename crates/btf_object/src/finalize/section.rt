@@ -4,10 +4,10 @@ ghost use Rattle.std.specs.Prelude.{◌≡◌, length, map, if◌then◌else◌,
 ghost use Rattle.std.specs.Option.{option_map};
 ghost use Rattle.btf_model.specs.Record as model;
 ghost use Rattle.btf_model.specs.Record.{kind_of, vlen};
-ghost use Rattle.btf_rewrite_model.specs.Made.{entries};
+ghost use Rattle.btf_rewrite_model.specs.Made.{section_entries};
 ghost use Rattle.btf_table.specs.KsymsStep.{model_entry as entry_of};
 ghost use Rattle.btf_object_model.specs.Finalized.{entry_offset, IsFinal};
-ghost use Rattle.btf_object.specs.Finalize.{AreNamesCached, parts_of, completed_parts, final_parts, layout_in, entries_placed};
+ghost use Rattle.btf_object.specs.Finalize.{AreNamesCached, parts_of, completed_parts, final_parts, layout_in, entries_at_offsets};
 
 use crate::finalize::known::KnownNames;
 use crate::layout::ObjectLayout;
@@ -53,7 +53,7 @@ fn place_entries<H: BuildHasher>(
 ) -> Result<Option<Vec<DataSecEntry>>, BtfError>
     requires { AreNamesCached btf.now.strings (layout_in layout.now) names.old }
     ensures made { IfOk result (λ placed_entries.
-        option_map (λ v. map entry_of v.items) placed_entries ≡ entries_placed (layout_in layout.now) btf.now data_sec.now) }
+        option_map (λ v. map entry_of v.items) placed_entries ≡ entries_at_offsets (layout_in layout.now) btf.now data_sec.now) }
     ensures count { IfOk result (λ o. IfSome o (λ v. length v.items ≡ vlen data_sec.now.info)) }
     ensures read { OnOk result (AreNamesCached btf.now.strings (layout_in layout.now) names.new) }
     ensures memory { IfErr result (λ e. e ≡ BtfError.OutOfMemory) }

@@ -7,7 +7,7 @@ mod name;
 ghost use Rattle.std.specs.Prelude.{◌≡◌, ◌==◌, length, not, true, false, None, Some, Ok, IfOk, OnOk};
 ghost use Rattle.std.specs.Option.{unwrap_or};
 ghost use Rattle.btf_rewrite_model.specs.declared.feature.BtfFeature.{BtfFeature};
-ghost use Rattle.btf_rewrite_model.specs.Made.{entries};
+ghost use Rattle.btf_rewrite_model.specs.Made.{section_entries};
 ghost use Rattle.btf_plain.specs.Error.{IsOrNoMemory};
 ghost use Rattle.btf_records.specs.BtfType.{record_of, fallback_of};
 ghost use Rattle.btf_table.specs.Adding.{HasRoom};

@@ -3,14 +3,14 @@
 ghost use Rattle.std.specs.Prelude.{◌≡◌, ◌<◌, ◌≤◌, ◌^◌, [], ◌∷◌, ℕ, List, length, map, Option, None, Ok, IfOk};
 ghost use Rattle.std.specs.List.{position_or_len};
 ghost use Rattle.btf_model.specs.Record.{Record, unknown, kind_of};
-ghost use Rattle.btf_rewrite_model.specs.Made.{Entry, entries, record_at};
+ghost use Rattle.btf_rewrite_model.specs.Made.{Entry, section_entries, record_at};
 ghost use Rattle.btf_rewrite_model.specs.Checks.{first_fault};
 ghost use Rattle.btf_rewrite_model.specs.Ksyms as model;
 ghost use Rattle.btf_rewrite_model.specs.Ksyms.{placeholder_checks, data_sec_checks};
 ghost use Rattle.btf_plain.specs.Error.{IsOrNoMemory, MeetsOrNoMemory};
 ghost use Rattle.btf_records.specs.BtfType.{record_of, fallback_of};
 ghost use Rattle.btf_table.specs.Checked.{checked};
-ghost use Rattle.btf_table.specs.KsymsStep.{symbol_target, FindsSymbols, StepsWith, ksyms_ids, MakesKsyms, symbol_prototype_of, HasSymbolNames, IsLaidOutLike, IsLaidOut, MakesType};
+ghost use Rattle.btf_table.specs.KsymsStep.{symbol_target, FindsSymbols, StepsWith, ksyms_ids, MakesKsyms, symbol_prototype_of, HasSymbolNames, IsLaidOutLike, IsLaidOutAnew, MakesType};
 ghost use Rattle.btf_table.specs.Readable.{IsReadableEnd};
 
 use crate::sanitize::func::global;
@@ -200,7 +200,7 @@ fn find_symbols(
 ) -> Result<Symbols, BtfError>
     requires { IsReadableEnd btf.now.strings readable_end }
     ensures { MeetsOrNoMemory (λ s. s) result
-        (FindsSymbols btf.now placeholder_id (entries data_sec.now.tail)) }
+        (FindsSymbols btf.now placeholder_id (section_entries data_sec.now.tail)) }
 {
     let mut symbols = Symbols::new(btf.allocator());
     for entry in data_sec.entries() {
@@ -255,7 +255,7 @@ impl Target {
     /// The DATASEC, with 4 bytes for each entry, one after the other.
     fn lay_out(&self, btf: &Btf, data_sec: &DataSec) -> Result<DataSec, BtfError>
         ensures like { IsLaidOutLike self.now btf.now data_sec.now result }
-        ensures words { IsLaidOut self.now btf.now data_sec.now result }
+        ensures words { IsLaidOutAnew self.now btf.now data_sec.now result }
     {
         let mut laid_out = data_sec.try_clone()?;
         for (index, entry) in data_sec.entries().iter().enumerate() {

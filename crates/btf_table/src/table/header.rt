@@ -2,7 +2,7 @@
 
 ghost use Rattle.std.specs.Prelude.{◌≡◌, ◌+◌, ◌<◌, ◌++◌, length, OnOk};
 ghost use Rattle.btf_model.specs.Blob.{header_bytes};
-ghost use Rattle.btf_table.specs.Header.{model_header, ReadsHeader, IsSection};
+ghost use Rattle.btf_table.specs.Header.{model_header, ReadsHeader, IsSectionAt};
 
 use btf_plain::{BtfError, Endianness};
 use std::alloc::AllocError;
@@ -26,7 +26,7 @@ pub struct Header {
 
 /// `len` bytes of the data from an offset on, which counts from the end of the header. None if they exceed the data.
 pub fn section(data: &[u8], hdr_len: u32, offset: u32, len: u32) -> Option<&[u8]>
-    ensures { IsSection «data».now hdr_len offset len result }
+    ensures { IsSectionAt «data».now hdr_len offset len result }
 {
     let start = hdr_len as usize + offset as usize;
     data.get(start..start + len as usize)

@@ -6,7 +6,7 @@ use Rattle.btf_relocate.specs.Modules.{targets_view}
 use Rattle.btf_relocate.specs.Sections.{is_shared}
 use Rattle.btf_loader_model.specs.Refused.{IsReasonAmong, sections_reason}
 use Rattle.btf_loader.specs.Errors.{of_table, IsReport, IsLoaderCause}
-use Rattle.btf_loader.specs.Results.{outcomes_of, refuses_errors, setting}
+use Rattle.btf_loader.specs.Results.{outcomes_of, refuses_errors, kernel_setting}
 use Rattle.btf_loader.proofs.Causes.{becomes, has_table, are_sections, table_cause, ext_cause, section_cause, accepted}
 use Rattle.btf_loader.proofs.Objects.{is_relocated}
 use Rattle.btf_loader.proofs.loader.relocate_object_among.Goals as goal
@@ -43,7 +43,7 @@ returns-in_err-outcomes-clause-cause g c =
     (has_table c.args.bytes.now c.in_ok-object.object c.header.result.now c.in-Some.table.now c.in_ok-local.local c.in_ok-object.ensures c.header.ensures c.in-Some.ensures c.in_ok-local.ensures.parsed)
     (are_sections c.in_ok-object.object c.header.result.now c.in-Some-section_named.data.now c.in_ok-local.local (ext c.in-Ok.ext) sections c.header.ensures c.in-Some-section_named.ensures c.in-Ok.ensures c.relocations.ensures)
     c.in_err-outcomes.field-0.0
-    (subst (λ (b : List ℕ). IsReport (sections_reason (setting c.in_ok-local.local (targets_view c.args.targets.now)) (is_shared c.args.policy) (refuses_errors c.args.refusals) c.in_ok-object.object b sections) c.in_err-outcomes.field-0.0) start c.in_err-outcomes.ensures.reports))
+    (subst (λ (b : List ℕ). IsReport (sections_reason (kernel_setting c.in_ok-local.local (targets_view c.args.targets.now)) (is_shared c.args.policy) (refuses_errors c.args.refusals) c.in_ok-object.object b sections) c.in_err-outcomes.field-0.0) start c.in_err-outcomes.ensures.reports))
     c.from_residual-in_err-outcomes.ensures.1
 
 pub returns-clause-accepted : goal.returns-clause-accepted
@@ -53,4 +53,4 @@ returns-clause-accepted g c =
     accepted c.args.bytes.now (targets_view c.args.targets.now) (is_shared c.args.policy) (refuses_errors c.args.refusals) c.in_ok-object.object c.in_ok-local.local sections
     (has_table c.args.bytes.now c.in_ok-object.object c.header.result.now c.in-Some.table.now c.in_ok-local.local c.in_ok-object.ensures c.header.ensures c.in-Some.ensures c.in_ok-local.ensures.parsed)
     (are_sections c.in_ok-object.object c.header.result.now c.in-Some-section_named.data.now c.in_ok-local.local (ext c.in-Ok.ext) sections c.header.ensures c.in-Some-section_named.ensures c.in-Ok.ensures c.relocations.ensures)
-    (ap (λ (b : List ℕ). sections_reason (setting c.in_ok-local.local (targets_view c.args.targets.now)) (is_shared c.args.policy) (refuses_errors c.args.refusals) c.in_ok-object.object b sections) (sym start) ∙ c.in_ok-outcomes.ensures.reports)
+    (ap (λ (b : List ℕ). sections_reason (kernel_setting c.in_ok-local.local (targets_view c.args.targets.now)) (is_shared c.args.policy) (refuses_errors c.args.refusals) c.in_ok-object.object b sections) (sym start) ∙ c.in_ok-outcomes.ensures.reports)

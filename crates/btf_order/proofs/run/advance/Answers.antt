@@ -5,7 +5,7 @@ use Rattle.std.proofs.lemmas.Option.{slice_get_within, get_or_from_slice_get}
 use Rattle.btf_model.specs.Record.{Record, kind_of}
 use Rattle.btf_plain.specs.declared.error.BtfError.{BtfError}
 use Rattle.btf_plain.specs.declared.error.BtfError.TheVariants.{UnknownBtfType, MaximumTypeDepthReached, OutOfMemory}
-use Rattle.btf_order_model.specs.Uses.{Use, Needs, uses_in, uses_or, uses_by}
+use Rattle.btf_order_model.specs.Uses.{Use, NeedsUse, uses_in, uses_or, uses_by}
 use Rattle.btf_order.specs.declared.frame.Frame.{Frame}
 use Rattle.btf_order.specs.declared.shape.Node.{Node}
 use Rattle.btf_order.specs.Errors.{IsVisitError, IsStepError}
@@ -78,7 +78,7 @@ returns-in-Opens-clause-step c =
     (types_here c.args.table.now.records c.loop-node.top c.args.top.now (record_of c.in_ok-btf_type.btf_type.now) c.loop-node.invariant.node c.in_ok-btf_type.ensures.record_is) c.in-Some.ensures.child in (
       refers_opened _ c.loop-node.top.node.through_pointer c.loop-node.top.next c.in-Some.node c.in-Opens.node child opened.id opened.through_pointer,
       subst (λ (p : Progress). left_over c.visit.new.self + 2 ≤ left_over p) c.loop-node.invariant.same opened.less,
-      subst (λ (n : Node). Needs c.args.table.now.records (use_of n) (use_of c.in-Opens.node)) (sym c.loop-node.invariant.node)
+      subst (λ (n : Node). NeedsUse c.args.table.now.records (use_of n) (use_of c.in-Opens.node)) (sym c.loop-node.invariant.node)
           (record { direct = use_of c.in-Some.node; used = (used_next c.args.table.now.records c.args.top.now.node c.loop-node.top (record_of c.in_ok-btf_type.btf_type.now) c.in-Some.node c.in_ok-btf_type.ensures.record_is c.loop-node.invariant.node c.in-Some.ensures.uses); counts = opened.counts }),
       subst (λ (p : Progress). OpensOnly p c.visit.new.self (use_of c.in-Opens.node)) c.loop-node.invariant.same opened.opens,
       opened.inside,

@@ -27,7 +27,7 @@ returns-clause-rewrites g c =
     (c.in_ok-btf.btf, c.fixup_and_sanitize_with.new.self, c.in_ok-btf.ensures.parsed, h.0, h.1, same_ok {E = Refusal} c.in_ok-to_bytes.field-0.items _ c.in_ok-to_bytes.ensures.written, written_is g (goal.at.returns-clause-rewrites g c).In_ok-to_bytes)
 
 pub returns-clause-granted : goal.returns-clause-granted
-returns-clause-granted g c = of_bytes g (goal.at.returns-clause-granted g c).In_ok-to_bytes (λ old new. NeedsAreGranted c.args.policy old c.args.ksyms c.fixup_and_sanitize_with.new.resolver.answers new) c.in_ok-answers.ensures.granted
+returns-clause-granted g c = of_bytes g (goal.at.returns-clause-granted g c).In_ok-to_bytes (NeedsAreGranted c.args.policy c.args.ksyms c.fixup_and_sanitize_with.new.resolver.answers) c.in_ok-answers.ensures.granted
 
 pub returns-clause-kept : goal.returns-clause-kept
 returns-clause-kept g c =

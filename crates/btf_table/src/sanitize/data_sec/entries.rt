@@ -3,7 +3,7 @@
 ghost use Rattle.std.specs.Prelude.{◌≡◌, length, map, IfOk, OnOk};
 ghost use Rattle.std.specs.List.{flat_map};
 ghost use Rattle.btf_model.specs.Record.{vlen};
-ghost use Rattle.btf_rewrite_model.specs.Made.{entries};
+ghost use Rattle.btf_rewrite_model.specs.Made.{section_entries};
 ghost use Rattle.btf_rewrite_model.specs.Pass.{Pass};
 ghost use Rattle.btf_rewrite_model.specs.Rule.{placed};
 ghost use Rattle.btf_plain.specs.Error.{IsOrNoMemory};
@@ -108,7 +108,7 @@ fn place_entry<H: BuildHasher>(
 ) -> Result<DataSecEntry, BtfError>
     requires readable { IsReadableEnd btf.now.strings readable_end }
     requires found { AreFound btf.now.strings (offsets_of symbols.now) offsets.old }
-    ensures answer { (p : Pass) → p.table ≡ btf.now
+    ensures made { (p : Pass) → p.table ≡ btf.now
         → p.layout.symbols ≡ offsets_of symbols.now
         → IsOrNoMemory entry_of result (entry_placed p entry.now) }
     ensures found { OnOk result (AreFound btf.now.strings (offsets_of symbols.now) offsets.new) }

@@ -16,7 +16,8 @@ use Rattle.btf_object_model.specs.Sanitized.{Target}
 use Rattle.btf_rewrite_model.proofs.FeatureSet.{AreOfKernel, kernel_agrees}
 use Rattle.btf_object.proofs.Kernels.{all_of_kernel}
 use Rattle.btf_object.proofs.Named.{layouts_alike}
-use Rattle.btfobj_cli.specs.Rewrite.{chosen_target, no_layout}
+use Rattle.btf_rewrite_model.specs.Pass.{no_layout}
+use Rattle.btfobj_cli.specs.Rewrite.{chosen_target}
 use Rattle.btfobj_cli.proofs.rewrite.sanitize_table.Goals as goal
 
 pub returns : goal.returns

@@ -50,7 +50,7 @@ returns-in-Ok-clause-granted c = λ zero.
     let listed : List FeatureAnswer = c.in-Ok.field-0.items in (
       listed,
       c.in-Ok.ensures.listed,
-      carried (λ old new. NeedsAreGranted (policy_chosen kernel) old (ids_chosen kernel) listed new) _ _ _ _ (same_old w) (same_new w) c.in-Ok.ensures.granted,
+      carried (NeedsAreGranted (policy_chosen kernel) (ids_chosen kernel) listed) _ _ _ _ (same_old w) (same_new w) c.in-Ok.ensures.granted,
     )
 
 -- the answers that were reported are to the first features that the rewrite of the handle's table asks for

@@ -1,6 +1,6 @@
 use Rattle.std.proofs.Common.{refl, ap, ◌∙◌, map}
 use Rattle.std.proofs.lemmas.Bool.{false≢true}
-use Rattle.btf_cli.specs.Setting.{Setting, texts}
+use Rattle.btf_cli.specs.Setting.{Setting, word_texts}
 use Rattle.btf_cli.specs.Settings.{SetIds, ksyms_set, placeholder_set}
 use Rattle.btf_cli.specs.Word.{setting_of}
 use Rattle.btf_cli.specs.declared.word.Word.{Word}
@@ -57,15 +57,15 @@ loop-word-preserved c =
 pub returns-in-None-Some-clause-none : goal.returns-in-None-Some-clause-none
 returns-in-None-Some-clause-none c = λ request asked.
     let read = read_whole c.args.words.now c.loop-word.word-index c.loop-word.ksyms c.loop-word.placeholder c.loop-word-test.false c.loop-word.invariant in
-    placeholder_alone (texts c.args.words.now) c.loop-word.ksyms c.loop-word.placeholder c.in-None-Some.field-0-1 c.in-None-Some.is-0 c.in-None-Some.is-1 asked.1.0 request.ksyms read (rw asked.0 at asked.1.1.all) asked.1.1.ids
+    placeholder_alone (word_texts c.args.words.now) c.loop-word.ksyms c.loop-word.placeholder c.in-None-Some.field-0-1 c.in-None-Some.is-0 c.in-None-Some.is-1 asked.1.0 request.ksyms read (rw asked.0 at asked.1.1.all) asked.1.1.ids
 
 pub returns-clause-some : goal.returns-clause-some
 returns-clause-some c =
     let read = read_whole c.args.words.now c.loop-word.word-index c.loop-word.ksyms c.loop-word.placeholder c.loop-word-test.false c.loop-word.invariant in
-    let words_set = map setting_asked (texts c.args.words.now) in
+    let words_set = map setting_asked (word_texts c.args.words.now) in
     let ids_set : SetIds words_set c.match-ksyms.ksyms =
     elim c.match-ksyms.branch [
-      | in-Some-default w ↦ some_ids (texts c.args.words.now) c.loop-word.ksyms c.loop-word.placeholder w.in-Some-default.datasec_id c.match-ksyms.ksyms read w.in-Some-default.is-0 w.ksyms-is
-      | in-None-None w ↦ no_ids (texts c.args.words.now) c.loop-word.ksyms c.loop-word.placeholder c.match-ksyms.ksyms read w.in-None-None.is-0 w.in-None-None.is-1 w.ksyms-is
+      | in-Some-default w ↦ some_ids (word_texts c.args.words.now) c.loop-word.ksyms c.loop-word.placeholder w.in-Some-default.datasec_id c.match-ksyms.ksyms read w.in-Some-default.is-0 w.ksyms-is
+      | in-None-None w ↦ no_ids (word_texts c.args.words.now) c.loop-word.ksyms c.loop-word.placeholder c.match-ksyms.ksyms read w.in-None-None.is-0 w.in-None-None.is-1 w.ksyms-is
     ] in
     (refl, (words_set, record { all = read.set; ids = ids_set }))

@@ -7,15 +7,15 @@ use Rattle.btf_relocate.specs.Modules.{targets_view}
 use Rattle.btf_relocate.specs.Sections.{is_shared}
 use Rattle.btf_loader_model.specs.Loader.{any_error, is_unreadable}
 use Rattle.btf_loader_model.specs.Refused.{sections_reason}
-use Rattle.btf_loader.specs.Results.{outcomes_of, refuses_errors, setting}
+use Rattle.btf_loader.specs.Results.{outcomes_of, refuses_errors, kernel_setting}
 use Rattle.btf_loader.specs.declared.step.Refusals.TheVariants.{Refuse}
 use Rattle.btf_loader.proofs.Steps.{Continues}
 use Rattle.btf_loader.proofs.step.Loader.relocate.Given as goal
 
 abbrev pub invariant-loop-index : goal.invariant-loop-index
 invariant-loop-index l =
-    Continues (setting l.self.local.now (targets_view l.self.targets.now)) (is_shared l.self.policy) l.self.object.now l.fn.file l.relocations l.all.items l.file (drop l.index l.relocations)
+    Continues (kernel_setting l.self.local.now (targets_view l.self.targets.now)) (is_shared l.self.policy) l.self.object.now l.fn.file l.relocations l.all.items l.file (drop l.index l.relocations)
     × (l.self.refusals ≡ Refuse → any_error (map outcomes_of l.all.items) ≡ false)
     × (list_any (is_unreadable l.self.local.now.strings) (map relocation l.relocations) ≡ list_any (is_unreadable l.self.local.now.strings) (map relocation (drop l.index l.relocations)))
-    × (sections_reason (setting l.self.local.now (targets_view l.self.targets.now)) (is_shared l.self.policy) (refuses_errors l.self.refusals) l.self.object.now l.fn.file (map relocation l.relocations)
-    ≡ sections_reason (setting l.self.local.now (targets_view l.self.targets.now)) (is_shared l.self.policy) (refuses_errors l.self.refusals) l.self.object.now l.file (map relocation (drop l.index l.relocations)))
+    × (sections_reason (kernel_setting l.self.local.now (targets_view l.self.targets.now)) (is_shared l.self.policy) (refuses_errors l.self.refusals) l.self.object.now l.fn.file (map relocation l.relocations)
+    ≡ sections_reason (kernel_setting l.self.local.now (targets_view l.self.targets.now)) (is_shared l.self.policy) (refuses_errors l.self.refusals) l.self.object.now l.file (map relocation (drop l.index l.relocations)))

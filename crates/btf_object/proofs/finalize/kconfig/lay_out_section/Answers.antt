@@ -3,7 +3,7 @@ use Rattle.std.specs.List.{flat_map}
 use Rattle.std.specs.declared.cmp.Reverse.{Reverse}
 use Rattle.std.proofs.lemmas.List.Sorted.{answers_always}
 use Rattle.btf_model.specs.Record.{vlen}
-use Rattle.btf_rewrite_model.specs.Made.{entries}
+use Rattle.btf_rewrite_model.specs.Made.{section_entries}
 use Rattle.btf_rewrite_model.proofs.Granted.{vlen_small}
 use Rattle.btf_plain.specs.Items.{code_entry_words}
 use Rattle.btf_object_model.specs.Kconfig.{total}
@@ -23,7 +23,7 @@ sorted c =
     let key : Extern → Reverse ℕ × ℕ × Bor (List ℕ) = λ e. (record { 0 = e.value.alignment }, e.value.size, e.name) in
     let keys = answers_always _ _ _ (λ f a r next called. search rules) in
     has_externs c.args.btf.now c.args.data_sec.now c.in-Some.externs.items c.sort_by_key.new.self.items
-    (known_some c.args.btf.now (entries c.args.data_sec.now.tail) c.in_ok-externs.field-0 c.in-Some.externs c.in-Some.is c.in_ok-externs.ensures.known)
+    (known_some c.args.btf.now (section_entries c.args.data_sec.now.tail) c.in_ok-externs.field-0 c.in-Some.externs c.in-Some.is c.in_ok-externs.ensures.known)
     (len_is c) (c.in_ok-sort_by_key.ensures.sorted key keys) (c.in_ok-sort_by_key.ensures.stable key keys)
 
 -- their entries

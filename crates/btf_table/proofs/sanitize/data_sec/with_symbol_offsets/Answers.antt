@@ -4,7 +4,7 @@ use Rattle.std.proofs.lemmas.List.Folds.{flat_map-map}
 use Rattle.btf_model.specs.Record.{Record, vlen}
 use Rattle.btf_model.specs.Refusal.{Refusal}
 use Rattle.btf_rewrite_model.specs.Made as model
-use Rattle.btf_rewrite_model.specs.Made.{Entry, entries, entry_words}
+use Rattle.btf_rewrite_model.specs.Made.{Entry, section_entries, entry_words}
 use Rattle.btf_rewrite_model.specs.Checks.{first_fault}
 use Rattle.btf_rewrite_model.specs.Rule.{placed}
 use Rattle.btf_rewrite_model.specs.Fault.{entry_checks}
@@ -19,8 +19,8 @@ use Rattle.btf_table.proofs.sanitize.data_sec.with_symbol_offsets.Goals as goal
 
 pub returns-in_err-entries-clause-answer : goal.returns-in_err-entries-clause-answer
 returns-in_err-entries-clause-answer g c = λ p same symbols.
-    reported_on (λ new. record_of (unwrap_or new (DataSec c.args.data_sec.now))) c.in_err-entries.field-0.0 c.from_residual.result (first_fault (flat_map (entry_checks p) (entries c.args.data_sec.now.tail))) _
-    (model.made_data_sec c.args.name_offset c.args.size (vlen c.args.data_sec.now.info) (map (placed p) (entries c.args.data_sec.now.tail))) c.from_residual.ensures.1
+    reported_on (λ new. record_of (unwrap_or new (DataSec c.args.data_sec.now))) c.in_err-entries.field-0.0 c.from_residual.result (first_fault (flat_map (entry_checks p) (section_entries c.args.data_sec.now.tail))) _
+    (model.made_data_sec c.args.name_offset c.args.size (vlen c.args.data_sec.now.info) (map (placed p) (section_entries c.args.data_sec.now.tail))) c.from_residual.ensures.1
     (c.in_err-entries.ensures.answer p same symbols)
 
 pub returns-clause-answer : goal.returns-clause-answer
@@ -28,7 +28,7 @@ returns-clause-answer g c = λ p same symbols.
     let ok = checked_ok _ _ _ (c.in_ok-entries.ensures.answer p same symbols) in
     let name : ℕ = c.args.name_offset in
     let size : ℕ = c.args.size in
-    let es : List Entry = map (placed p) (entries c.args.data_sec.now.tail) in
+    let es : List Entry = map (placed p) (section_entries c.args.data_sec.now.tail) in
     let is : c.new.result ≡ model.made_data_sec name size (vlen c.args.data_sec.now.info) es =
     c.new.ensures ∙ ap (λ (n : ℕ). record { name = name; info = 15 * 2 ^ 24 + n; third = size; tail = flat_map (λ e. entry_words (model_entry e)) c.in_ok-entries.entries.items }) (c.in_ok-entries.entries.ok.0 ∙ c.in_ok-entries.ensures.count)
     ∙ ap (λ (ws : List ℕ). record { name = name; info = 15 * 2 ^ 24 + vlen c.args.data_sec.now.info; third = size; tail = ws }) (sym (flat_map-map entry_words model_entry c.in_ok-entries.entries.items))

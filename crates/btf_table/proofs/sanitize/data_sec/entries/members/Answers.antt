@@ -4,7 +4,7 @@ use Rattle.std.proofs.lemmas.List.{length-append}
 use Rattle.std.proofs.lemmas.List.Concat.{flat_map-append}
 use Rattle.std.proofs.lemmas.Option.{IfSome_then}
 use Rattle.btf_model.specs.Refusal.{Refusal}
-use Rattle.btf_rewrite_model.specs.Made.{Entry, entries}
+use Rattle.btf_rewrite_model.specs.Made.{Entry, section_entries}
 use Rattle.btf_rewrite_model.specs.Checks.{first_fault}
 use Rattle.btf_rewrite_model.specs.Rule.{member_name, entry_members}
 use Rattle.btf_rewrite_model.specs.Fault.{member_checks}
@@ -18,8 +18,8 @@ use Rattle.btf_table.proofs.sanitize.data_sec.entries.members.Goals as goal
 pub returns-in_err-member-clause-answer : goal.returns-in_err-member-clause-answer
 returns-in_err-member-clause-answer c = λ p lower same names.
     let tail : List ℕ = c.args.data_sec.now.tail in
-    let answer : List ℕ = entry_members p lower (length lower) (entries tail) in
-    handed_on (λ v. flat_map member_words v.items) c.in_err-member.field-0.0 c.from_residual.result (λ a. a ≡ checked (first_fault (flat_map (member_checks p) (entries tail))) answer) c.from_residual.ensures.1
+    let answer : List ℕ = entry_members p lower (length lower) (section_entries tail) in
+    handed_on (λ v. flat_map member_words v.items) c.in_err-member.field-0.0 c.from_residual.result (λ a. a ≡ checked (first_fault (flat_map (member_checks p) (section_entries tail))) answer) c.from_residual.ensures.1
     (IfSome_then _ (c.in_err-member.ensures p lower same names) (λ refusal is.
     sym (ap (λ (f : Option Refusal). checked f answer) (this_one_faults (member_checks p) tail c.entries-entry-items.result.now c.loop-entry.entry-index refusal c.entries-entry-items.ensures.words c.loop-entry-test.true
     (c.loop-entry.invariant.1 p lower same names).0 (checked_err _ _ refusal is)))))
@@ -45,5 +45,5 @@ returns-clause-answer c = λ p lower same names.
     let tail : List ℕ = c.args.data_sec.now.tail in
     let here : _ = c.loop-entry.invariant.1 p lower same names in
     let all : _ = all_entries tail c.entries-entry-items.result.now c.loop-entry.entry-index c.entries-entry-items.ensures.words c.loop-entry-test.false in
-    let passed : first_fault (flat_map (member_checks p) (entries tail)) ≡ _ = ap (λ (es : List Entry). first_fault (flat_map (member_checks p) es)) (sym all) ∙ here.0 in
-    ap (λ (ws : List ℕ). Ok ws) (here.1 ∙ ap (entry_members p lower (length lower)) all) ∙ sym (ap (λ (f : Option Refusal). checked f (entry_members p lower (length lower) (entries tail))) passed)
+    let passed : first_fault (flat_map (member_checks p) (section_entries tail)) ≡ _ = ap (λ (es : List Entry). first_fault (flat_map (member_checks p) es)) (sym all) ∙ here.0 in
+    ap (λ (ws : List ℕ). Ok ws) (here.1 ∙ ap (entry_members p lower (length lower)) all) ∙ sym (ap (λ (f : Option Refusal). checked f (entry_members p lower (length lower) (section_entries tail))) passed)

@@ -13,8 +13,8 @@ use Rattle.btf_table.specs.KsymsStep.{model_entry as entry_of}
 use Rattle.btf_table.proofs.SectionRules.{reported_on}
 use Rattle.btf_table.proofs.sanitize.data_sec.entries.place_entry.Goals as goal
 
-pub returns-in_err-offset-clause-answer : goal.returns-in_err-offset-clause-answer
-returns-in_err-offset-clause-answer g c = λ p same symbols.
+pub returns-in_err-offset-clause-made : goal.returns-in_err-offset-clause-made
+returns-in_err-offset-clause-made g c = λ p same symbols.
     let name : Result (List ℕ) Refusal = text_at c.args.btf.now.strings c.name_offset-name_offset.result in
     let left : List Check = name_is_read name ∷ is_placed (symbol_by_name p name) name ∷ [] in
     let number : ℕ = unwrap_or (symbol_by_name p name) 0 in

@@ -2,7 +2,7 @@ use Rattle.std.proofs.Common.{◌≡◌, Some, Ok, refl, subst, ◌∙◌}
 use Rattle.std.specs.List.{flat_map}
 use Rattle.std.proofs.lemmas.Option.{IfSome_then}
 use Rattle.btf_model.specs.Record.{Record}
-use Rattle.btf_rewrite_model.specs.Made.{entries}
+use Rattle.btf_rewrite_model.specs.Made.{section_entries}
 use Rattle.btf_rewrite_model.specs.Checks.{first_fault}
 use Rattle.btf_rewrite_model.specs.Ksyms.{placeholder_checks, data_sec_checks, ksyms_entry_checks, ksyms_entries}
 use Rattle.btf_table.specs.KsymsStep.{ksyms_ids, FindsSymbols, StepsWith}
@@ -26,13 +26,13 @@ returns-in_err-symbols c =
     (IfSome_then _ c.in_err-symbols.ensures (λ refusal is.
     fault_third (placeholder_checks t c.args.placeholder_id) (data_sec_checks t c.args.datasec_id) (flat_map (ksyms_entry_checks t c.args.placeholder_id) (ksyms_entries t (ksyms_ids c.args.datasec_id c.args.placeholder_id)))
     (checked_ok _ _ _ c.in_ok-target.ensures).0 section.0
-    ∙ subst (λ (r : Record). first_fault (flat_map (ksyms_entry_checks t c.args.placeholder_id) (entries r.tail)) ≡ Some refusal) section.1 is))
+    ∙ subst (λ (r : Record). first_fault (flat_map (ksyms_entry_checks t c.args.placeholder_id) (section_entries r.tail)) ≡ Some refusal) section.1 is))
 
 pub returns : goal.returns
 returns c =
     let t : _ = c.args.btf.now in
     let section : _ = checked_ok _ _ _ c.in_ok-data_sec.ensures in
-    let found : _ = subst (λ (r : Record). FindsSymbols t c.args.placeholder_id (entries r.tail) (Ok c.in_ok-symbols.symbols)) section.1 c.in_ok-symbols.ensures in (
+    let found : _ = subst (λ (r : Record). FindsSymbols t c.args.placeholder_id (section_entries r.tail) (Ok c.in_ok-symbols.symbols)) section.1 c.in_ok-symbols.ensures in (
       fault_third (placeholder_checks t c.args.placeholder_id) (data_sec_checks t c.args.datasec_id) (flat_map (ksyms_entry_checks t c.args.placeholder_id) (ksyms_entries t (ksyms_ids c.args.datasec_id c.args.placeholder_id)))
           (checked_ok _ _ _ c.in_ok-target.ensures).0 section.0
           ∙ found.0,
