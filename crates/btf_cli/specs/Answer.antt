@@ -18,7 +18,7 @@ use Rattle.btf_cli.specs.declared.line.Line.{Line}
 use Rattle.btf_cli.specs.declared.line.Query.TheVariants.{Copy, Types, Size, Compat}
 use Rattle.btf_cli.specs.declared.line.Command.{Command}
 use Rattle.btf_cli.specs.declared.line.Command.TheVariants.{Ask, Rewrite}
-use Rattle.btf_cli.specs.Listing.{listing, size_line, comparison_lines}
+use Rattle.btf_cli.specs.Listing.{table_lines, size_line, comparison_lines}
 
 -- The comparison of two types of a table returns this answer and this number of started pairs, or this error.
 abbrev pub ComparesWithin : Table → ℕ → ℕ → Result (Bool × ℕ) Refusal → Type 0
@@ -39,7 +39,7 @@ RewritesAsAsked request t (Err refusal) =
 -- the output of a command on a table
 abbrev pub Writes : Command → Table → List ℕ → Type 0
 Writes (Ask Copy) t written = written ≡ canon t
-Writes (Ask Types) t written = written ≡ listing t
+Writes (Ask Types) t written = written ≡ table_lines t
 Writes (Ask (Size id)) t written = (n : ℕ) × HasSize t.records id (Ok n) × (written ≡ size_line n)
 Writes (Ask (Compat id other)) t written =
     (b : Bool) × (n : ℕ) × ComparesWithin t id other (Ok (b, n)) × (written ≡ comparison_lines b n)

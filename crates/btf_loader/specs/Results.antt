@@ -49,8 +49,8 @@ section_relocated loader file section =
     (section_at (loader_setting loader) loader.object.now section.0) file section.1
 
 -- why it does not relocate that, if it does not
-abbrev pub section_reason : Loader → List ℕ → ℕ × List (List ℕ) → Option Reason
-section_reason loader file section =
+abbrev pub loader_section_reason : Loader → List ℕ → ℕ × List (List ℕ) → Option Reason
+loader_section_reason loader file section =
     records_reason (loader_setting loader) (is_shared loader.policy) (refuses_errors loader.refusals)
     loader.object.now file section
 

@@ -9,7 +9,7 @@ ghost use Rattle.btf_loader_model.specs.Refused.{BadRecord, BadSectionName, bad_
 ghost use Rattle.btf_loader.specs.Errors.{Reports};
 ghost use Rattle.btf_loader.specs.Names.{HasIndices};
 ghost use Rattle.btf_loader.specs.Places.{HasPlaces};
-ghost use Rattle.btf_loader.specs.Results.{code_relocated, file_reason, file_relocated, loader_setting, outcomes_of, section_reason, section_relocated};
+ghost use Rattle.btf_loader.specs.Results.{code_relocated, file_reason, file_relocated, loader_setting, outcomes_of, loader_section_reason, section_relocated};
 ghost use Rattle.btf_loader.specs.declared.step.Refusals.TheVariants.{Refuse};
 ghost use Rattle.btf_relocate.specs.Sections.{is_shared};
 ghost use Rattle.btf_table.specs.Readable.{IsReadableEnd};
@@ -104,7 +104,7 @@ impl<'a, 'o, 't> Loader<'a, 'o, 't> {
             → has_error (option_map (λ v. v.items) r) ≡ false) }
         ensures readable { OnOk result
             (is_err (text_at self.now.local.now.strings section.now.0) ≡ false) }
-        ensures reports { Reports (section_reason self.now file.old (relocation section.now))
+        ensures reports { Reports (loader_section_reason self.now file.old (relocation section.now))
             result }
     {
         let Some(index) = self.index_of(section.0)? else {

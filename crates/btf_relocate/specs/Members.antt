@@ -8,5 +8,5 @@ abbrev pub member_of : BtfMember → Member
 member_of m = record { name = m.name_offset; type = m.btf_type; offset = m.offset }
 
 -- where a member begins, and the number of bits of a bit-field, else 0, by the info word and the member's last word
-abbrev pub bits_of : ℕ → ℕ → ℕ × ℕ
-bits_of info offset = (member_bit_offset info offset, member_bit_field_size info offset)
+abbrev pub member_bits : ℕ → ℕ → ℕ × ℕ
+member_bits info offset = (member_bit_offset info offset, member_bit_field_size info offset)
