@@ -49,7 +49,7 @@ fn any_shares(sections: &[SectionHeader], offset: u64, len: u64) -> bool
 }
 
 /// Whether `len` bytes fit in the place of a section.
-#[tactic(auto, unfolding(btf_elf_model::specs::Replaced::fits))]
+#[tactic(auto, unfolding(btf_elf_model::specs::Replaced::fits_in_place))]
 pub fn fits(sections: &[SectionHeader], index: usize, section: &SectionHeader, len: u64) -> bool
     requires { index < length sections.now }
     ensures { result ≡ fits_in_place sections.now index section.now len }

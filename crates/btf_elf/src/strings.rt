@@ -82,7 +82,7 @@ fn before_zero(bytes: &[u8]) -> &[u8]
 }
 
 /// The name at an offset: the bytes up to the first zero byte.
-#[tactic(auto, unfolding(btf_elf_model::specs::Section::name_at))]
+#[tactic(auto, unfolding(btf_elf_model::specs::Section::string_from))]
 pub fn name_at(strings: &[u8], offset: u32) -> &[u8]
     ensures { result.now ≡ string_from strings.now offset }
 {
