@@ -1,3 +1,4 @@
+pub mod Answers
 pub mod Variants
 pub use Rattle.btf_model.specs.Value
 pub use Rattle.btf_model.specs.RelocationWords

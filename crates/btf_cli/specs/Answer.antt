@@ -1,5 +1,5 @@
 -- The output of the program.
-use Rattle.std.specs.Prelude.{◌≡◌, ◌⊎◌, ℕ, Bool, List, [], length, Option, Result, Ok, Err}
+use Rattle.std.specs.Prelude.{◌≡◌, ◌⊎◌, ℕ, Bool, List, [], length, Option, Result, Ok, Err, Some, IfSome}
 use Rattle.std.specs.Io.KnownBytes.{Appends}
 use Rattle.btf_model.specs.Refusal.{Refusal}
 use Rattle.btf_model.specs.Table.{Table}
@@ -18,7 +18,7 @@ use Rattle.btf_cli.specs.declared.line.Line.{Line}
 use Rattle.btf_cli.specs.declared.line.Query.TheVariants.{Copy, Types, Size, Compat}
 use Rattle.btf_cli.specs.declared.line.Command.{Command}
 use Rattle.btf_cli.specs.declared.line.Command.TheVariants.{Ask, Rewrite}
-use Rattle.btf_cli.specs.Listing.{listing, size_line, comparison_lines}
+use Rattle.btf_cli.specs.Listing.{table_lines, size_line, comparison_lines}
 
 -- The comparison of two types of a table returns this answer and this number of started pairs, or this error.
 abbrev pub ComparesWithin : Table → ℕ → ℕ → Result (Bool × ℕ) Refusal → Type 0
@@ -39,7 +39,7 @@ RewritesAsAsked request t (Err refusal) =
 -- the output of a command on a table
 abbrev pub Writes : Command → Table → List ℕ → Type 0
 Writes (Ask Copy) t written = written ≡ canon t
-Writes (Ask Types) t written = written ≡ listing t
+Writes (Ask Types) t written = written ≡ table_lines t
 Writes (Ask (Size id)) t written = (n : ℕ) × HasSize t.records id (Ok n) × (written ≡ size_line n)
 Writes (Ask (Compat id other)) t written =
     (b : Bool) × (n : ℕ) × ComparesWithin t id other (Ok (b, n)) × (written ≡ comparison_lines b n)
@@ -66,6 +66,15 @@ pub record IsDeclined (line : Line) (bytes : List ℕ) (refusal : Refusal) : Typ
   pub cause : IsRefusal line.endianness bytes refusal
       ⊎ ((t : Table) × IsTable line.endianness bytes t × Declines line.command t refusal)
 
+-- This is so if the input's bytes are known, and represent no table, or the command fails on their table.
+abbrev pub IfDeclined : Option (List ℕ) → Line → Type 0 → Type 0
+IfDeclined input line Follows =
+    (bytes : List ℕ) (f : Refusal) → input ≡ Some bytes → IsDeclined line bytes f → Follows
+
 -- The program appends the output for these bytes to a writer whose bytes are known, and nothing else.
 abbrev pub IsWritten : Option (List ℕ) → Option (List ℕ) → Line → List ℕ → Type 0
 IsWritten old new line bytes = (written : List ℕ) × IsAnswer line bytes written × Appends old new written
+
+-- The same, if the input's bytes are known.
+abbrev pub WritesFor : Option (List ℕ) → Option (List ℕ) → Option (List ℕ) → Line → Type 0
+WritesFor input old new line = IfSome input (λ bytes. IsWritten old new line bytes)

@@ -36,6 +36,10 @@ Asks words line =
     (rest : List (List ℕ)) × (word_texts words ≡ order_word line.endianness ∷ rest)
     × AsksCommand rest line.command
 
+-- P holds of the line that the words ask for, if they ask for one.
+abbrev pub IfAsked : List (String Global) → (Line → Type 0) → Type 0
+IfAsked words P = (line : Line) → Asks words line → P line
+
 -- some words are this command line
 abbrev pub IsCommandLine : Line → Type 0
 IsCommandLine line = (words : List (String Global)) × Asks words line

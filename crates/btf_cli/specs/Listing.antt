@@ -30,8 +30,8 @@ lines_from strings id [] = []
 lines_from strings id (r ∷ rs) = type_line strings id r ++ lines_from strings (id + 1) rs
 
 -- The listing of a table: a line for each type from id 1 on.
-abbrev pub listing : Table → List ℕ
-listing t = lines_from t.strings 1 (drop 1 t.records)
+abbrev pub table_lines : Table → List ℕ
+table_lines t = lines_from t.strings 1 (drop 1 t.records)
 
 -- the line of a size
 abbrev pub size_line : ℕ → List ℕ

@@ -81,3 +81,14 @@ SetIds settings (Some ids) =
     (filter_map ksyms_set settings ≡ ids.datasec_id ∷ [])
     × (filter_map placeholder_set settings ≡ option_to_list ids.placeholder_id)
 SetIds settings None = (filter_map ksyms_set settings ≡ []) × (filter_map placeholder_set settings ≡ [])
+
+-- These are the sizes of sections that the settings of the words give.
+abbrev pub SetSizes : List (List ℕ) → (List ℕ → Option ℕ) → Type 0
+SetSizes words sizes =
+    (settings : List Setting) → SetAll words settings → (name : List ℕ) → sizes name ≡ last_set (size_set name) settings
+
+-- These are the offsets of symbols that the settings of the words give.
+abbrev pub SetOffsets : List (List ℕ) → (List ℕ → Option ℕ) → Type 0
+SetOffsets words offsets =
+    (settings : List Setting) → SetAll words settings
+    → (name : List ℕ) → offsets name ≡ last_set (offset_set name) settings

@@ -86,7 +86,7 @@ fn write_lines<W: io::Write>(
 /// Writes a line for each type from id 1 on. Nothing is allocated, so only the writer can fail.
 pub fn write_listing<W: io::Write>(table: &Btf, out: &mut W) -> fmt::Result
     ensures { OnOk result (Appends (W.contents out.old) (W.contents out.new)
-        (spec.listing table.now)) }
+        (spec.table_lines table.now)) }
 {
     let mut lines = TextBuffer::new(out);
     if let Some((_, types)) = table.types().as_slice().split_first() {

@@ -1,15 +1,14 @@
 //! The program over any streams.
 
-ghost use Rattle.std.specs.Prelude.{◌≡◌, ◌≢◌, ◌≤◌, ℕ, List, ◌↔◌, None, Some, IfOk, IfErr, OnOk, OnErr, IfSome, IsOk, IsErr};
+ghost use Rattle.std.specs.Prelude.{◌≡◌, ◌≢◌, ◌≤◌, ◌↔◌, None, IfOk, IfErr, OnOk, OnErr, IfSome, IsOk, IsErr};
 ghost use Rattle.std.specs.Io.KnownBytes.{IsAtEnd, Keeps};
-ghost use Rattle.btf_model.specs.Refusal.{Refusal};
 ghost use Rattle.btf_plain.specs.Error.{refusal_of};
 ghost use Rattle.btf_cli.specs.declared.line.Command.TheVariants.{Ask};
 ghost use Rattle.btf_cli.specs.declared.line.Line.{Line};
 ghost use Rattle.btf_cli.specs.declared.fault.Fault.TheVariants as faults;
 ghost use Rattle.btf_cli.specs.Fault.{fault_refusal};
-ghost use Rattle.btf_cli.specs.Line.{Asks, IsCommandLine};
-ghost use Rattle.btf_cli.specs.Answer.{Writes, Declines, IsAnswer, IsDeclined, IsWritten};
+ghost use Rattle.btf_cli.specs.Line.{Asks, IfAsked, IsCommandLine};
+ghost use Rattle.btf_cli.specs.Answer.{Writes, WritesFor, Declines, IfDeclined, IsAnswer, IsDeclined};
 ghost use Rattle.btf_cli.specs.Output.{output_bytes};
 
 use crate::comparison::compare_ids;
@@ -86,11 +85,10 @@ fn carry_out<R: Read, W: Write>(
     out: &mut W,
 ) -> Result<(), Fault>
     requires { IsCommandLine line }
-    ensures written { OnOk result (IfSome (R.remaining input.old) (λ bytes.
-        IsWritten (W.contents out.old) (W.contents out.new) line.entry bytes)) }
-    ensures refused { (bytes : List ℕ) (f : Refusal) → R.remaining input.old ≡ Some bytes
-        → IsDeclined line.entry bytes f
-        → IsErr result × Keeps (W.contents out.old) (W.contents out.new) }
+    ensures written { OnOk result (WritesFor (R.remaining input.old)
+        (W.contents out.old) (W.contents out.new) line.entry) }
+    ensures refused { IfDeclined (R.remaining input.old) line.entry
+        (IsErr result × Keeps (W.contents out.old) (W.contents out.new)) }
     // An error of the table has this cause.
     ensures reported { IfErr result (λ fault. IfSome (R.remaining input.old) (λ bytes.
         IfSome (fault_refusal fault) (IsDeclined line.entry bytes))) }
@@ -134,9 +132,8 @@ pub fn run<R: Read, W: Write, E: Write>(
     ensures usage { (result ≡ 2) ↔ ((line : Line) → Asks words.now line → ⊥) }
     ensures usage_alone { result ≡ 2 → (input.new ≡ input.old) × (out.new ≡ out.old) }
     // On success the input represents a table, and the output of the command on it is written.
-    ensures written { (line : Line) → Asks words.now line → result ≡ 0
-        → IfSome (R.remaining input.old) (λ bytes.
-        IsWritten (W.contents out.old) (W.contents out.new) line bytes) }
+    ensures written { IfAsked words.now (λ line. result ≡ 0 → WritesFor (R.remaining input.old)
+        (W.contents out.old) (W.contents out.new) line) }
     // On success the input has been read to its end.
     ensures end { result ≡ 0 → IsAtEnd (R.remaining input.new) }
     // On success nothing is written on standard error.
@@ -145,9 +142,8 @@ pub fn run<R: Read, W: Write, E: Write>(
     ensures status { result ≤ 2 }
     // If the input represents no table, or the command fails on it, the status is 1, and nothing is written on standard
     // output.
-    ensures refused { (line : Line) (bytes : List ℕ) (f : Refusal) → Asks words.now line
-        → R.remaining input.old ≡ Some bytes
-        → IsDeclined line bytes f → (result ≡ 1) × Keeps (W.contents out.old) (W.contents out.new) }
+    ensures refused { IfAsked words.now (λ l. IfDeclined (R.remaining input.old) l
+        ((result ≡ 1) × Keeps (W.contents out.old) (W.contents out.new))) }
 {
     let Some(line) = Line::read(words) else {
         let _ = writeln!(err, "{USAGE}");

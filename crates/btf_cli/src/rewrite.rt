@@ -6,7 +6,7 @@ ghost use Rattle.btf_table.specs.Layout.{sizes_of, offsets_of};
 ghost use Rattle.btf_cli.specs.Answer.{rewriting, IsAnswer, IsDeclined};
 ghost use Rattle.btf_cli.specs.Request.{AreSet, asks_feature};
 ghost use Rattle.btf_cli.specs.Setting.{Setting, SectionSize, SymbolOffset, Sets, word_texts};
-ghost use Rattle.btf_cli.specs.Settings.{SetAll, last_set, size_set, offset_set};
+ghost use Rattle.btf_cli.specs.Settings.{SetOffsets, SetSizes};
 
 use crate::request::Request;
 use crate::word::Word;
@@ -44,8 +44,7 @@ fn sections(
     alloc: Global,
     words: &[String],
 ) -> Result<HashMap<String, (SectionIndex, u64)>, AllocError>
-    ensures { IfOk result (λ sections. (settings : List Setting) → SetAll (word_texts words.now) settings
-        → (name : List ℕ) → sizes_of sections name ≡ last_set (size_set name) settings) }
+    ensures { IfOk result (λ sections. SetSizes (word_texts words.now) (sizes_of sections)) }
 {
     let mut sections = HashMap::new(alloc);
     for word in words {
@@ -58,8 +57,7 @@ fn sections(
 
 /// The offsets of the symbols that the words name.
 fn symbols(alloc: Global, words: &[String]) -> Result<HashMap<String, u64>, AllocError>
-    ensures { IfOk result (λ symbols. (settings : List Setting) → SetAll (word_texts words.now) settings
-        → (name : List ℕ) → offsets_of symbols name ≡ last_set (offset_set name) settings) }
+    ensures { IfOk result (λ symbols. SetOffsets (word_texts words.now) (offsets_of symbols)) }
 {
     let mut symbols = HashMap::new(alloc);
     for word in words {

@@ -55,6 +55,16 @@ PositionIs (positions.Decided answer) P = Meets (λ b. b) answer (λ a. P (Decid
 PositionIs (positions.On next) P = P (On (pair_of next))
 PositionIs (positions.Prototypes found) P = P (Pending (pending_of found) (pair_of found.returns))
 
+-- what two types that are no modifiers give, by the id of the first
+abbrev pub TypesFind : ℕ → BtfType → BtfType → model.Position → Type 0
+TypesFind id local target =
+    model.PositionFound id (type_kind local) (type_kind target) (record_of local) (record_of target)
+
+-- the position of two types of this kind, by the record of the first
+abbrev pub IsOfKind : Kind → Record → BtfType → Position → Type 0
+IsOfKind kind local target position =
+    type_kind target ≡ kind → PositionIs position (λ found. found ≡ model.position_by 0 kind local (record_of target))
+
 -- P holds of the ids of the prototypes, if the position is at prototypes
 abbrev pub IfPrototypes : Position → (Pair → Type 0) → Type 0
 IfPrototypes (positions.Prototypes found) P = P (pair_of found.ids)
@@ -262,11 +272,17 @@ Compares local target root result Reports =
     (answer : Result Bool Refusal) × (listed : List Pair) × Plain local target [] root answer listed
     × TracesBy Reports result answer (firsts listed)
 
--- The walk of a pair starts: it fails, and no pair is added to the starts; or the frame is that of the pair, `Learns`
--- holds, and the pair is added.
-abbrev pub StartsPair : {S : Type 0} → Table → Table → (Pair → Bool) → ℕ × ℕ → Frame → Result Place BtfError → Type 0
+-- The same if the starts have gained the pair alone, whatever they were before.
+abbrev pub ComparesFirst : {S : Type 0} → Table → Table → ℕ × ℕ → Result Bool BtfError
     → (S → S → List (ℕ × ℕ) → Type 0) → S → S → Type 0
+ComparesFirst local target first result has old new =
+    (before : _) → has before old (first ∷ []) → Compares local target (pair_of first) result (has before new)
+
+-- The walk of a pair starts: it fails, and no pair is added to the starts; or the frame is that of the pair, `Learns`
+-- holds of the pair and its progress, and the pair is added.
+abbrev pub StartsPair : {S : Type 0} → Table → Table → BTreeSet (ℕ × ℕ) → ℕ × ℕ → Frame → Result Place BtfError
+    → (ℕ × ℕ → Progress → Type 0) → (S → S → List (ℕ × ℕ) → Type 0) → S → S → Type 0
 StartsPair local target passed pair frame result Learns has old new =
     (FailsFor result (CannotStart local target (pair_of pair)) × KeepsStarts has old new)
-    ⊎ (HasStarted local target passed (pair_of pair) frame result × (frame.pair ≡ pair) × Learns
-    × AddsStart has old new pair)
+    ⊎ (HasStarted local target (passed_in passed) (pair_of pair) frame result × (frame.pair ≡ pair)
+    × Learns pair (progress_of result) × AddsStart has old new pair)

@@ -1,11 +1,11 @@
 //! The comparison of the types of two fields.
 
 ghost use Rattle.std.specs.Prelude.{◌≡◌};
-ghost use Rattle.btf_model.specs.Fields.{Fields, FieldsFind, FieldsFound, field_by, before_flavor, same_names};
+ghost use Rattle.btf_model.specs.Fields.{Fields, FieldsFind, before_flavor, same_names};
 ghost use Rattle.btf_model.specs.Text.{text_at};
 ghost use Rattle.btf_plain.specs.Error.{MeetsOrNoMemory};
 ghost use Rattle.btf_records.specs.BtfType.{record_of, type_kind};
-ghost use Rattle.btf_compare.specs.FieldStep.{FieldStepIs};
+ghost use Rattle.btf_compare.specs.FieldStep.{FieldStepIs, FieldTypesFind, step_by_kinds, type_text};
 ghost use Rattle.btf_compare.specs.Pairs.{id_pair};
 
 use crate::position::resolve;
@@ -81,8 +81,7 @@ fn step_of(
     target_type: &BtfType,
 ) -> FieldStep
     ensures { FieldStepIs result
-        (FieldsFound local.now target.now local_id (type_kind local_type.now)
-        (type_kind target_type.now) (record_of local_type.now) (record_of target_type.now)) }
+        (FieldTypesFind local.now target.now local_id local_type.now target_type.now) }
 {
     if local_type.is_composite() && target_type.is_composite() {
         return FieldStep::Ends(Ok(true));
@@ -101,9 +100,8 @@ fn by_kind(
     target: &Btf,
     target_type: &BtfType,
 ) -> FieldStep
-    ensures { FieldStepIs result (λ found. found ≡ field_by local.now target.now local_id
-        (type_kind local_type.now) (type_kind target_type.now) (record_of local_type.now)
-        (record_of target_type.now)) }
+    ensures { FieldStepIs result (λ found. found ≡ step_by_kinds local.now target.now local_id
+        local_type.now target_type.now) }
 {
     match (local_type, target_type) {
         (BtfType::Int(l), BtfType::Int(t)) => FieldStep::Ends(Ok(
@@ -128,8 +126,8 @@ fn have_same_name(
     target_type: &BtfType,
 ) -> Result<bool, BtfError>
     ensures { MeetsOrNoMemory (λ b. b) result
-        (λ answer. answer ≡ same_names (text_at local.now.strings (record_of local_type.now).name)
-        (text_at target.now.strings (record_of target_type.now).name)) }
+        (λ a. a ≡ same_names (type_text local.now local_type.now)
+        (type_text target.now target_type.now)) }
 {
     let name = local.type_name(local_type)?;
     let other = target.type_name(target_type)?;

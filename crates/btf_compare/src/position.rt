@@ -7,7 +7,7 @@ ghost use Rattle.btf_model.specs.Compat.{Finds, PositionFound, ResolvesPair, pos
 ghost use Rattle.btf_model.specs.Walk.{modified_type};
 ghost use Rattle.btf_plain.specs.Error.{Meets};
 ghost use Rattle.btf_records.specs.BtfType.{record_of, type_kind};
-ghost use Rattle.btf_compare.specs.Compared.{PositionIs, IfPrototypes, HasFew, are_long, pending_of};
+ghost use Rattle.btf_compare.specs.Compared.{PositionIs, TypesFind, IsOfKind, IfPrototypes, HasFew, are_long, pending_of};
 ghost use Rattle.btf_compare.specs.Pairs.{IsResolved, pair_of};
 
 use btf_plain::{Array, BtfError, BtfKind, Int, Ptr};
@@ -65,8 +65,7 @@ pub fn types_at<'a>(
     target_type: &'a BtfType,
 ) -> Position<'a>
     ensures position { PositionIs result
-        (PositionFound ids.0 (type_kind local_type.now) (type_kind target_type.now)
-        (record_of local_type.now) (record_of target_type.now)) }
+        (TypesFind ids.0 local_type.now target_type.now) }
     ensures ids { IfPrototypes result (λ ids_of_prototypes. ids_of_prototypes ≡ pair_of ids) }
     ensures few { HasFew result }
 {
@@ -101,9 +100,7 @@ pub fn types_at<'a>(
 
 /// Compares an integer with another type: whether that is an integer too, and both begin at bit 0.
 fn ints<'a>(local: &Int, target_type: &BtfType) -> Position<'a>
-    ensures { type_kind target_type.now ≡ model.Int
-        → PositionIs result (λ found. found ≡ position_by 0 model.Int local.now
-        (record_of target_type.now)) }
+    ensures { IsOfKind model.Int local.now target_type.now result }
 {
     match target_type {
         BtfType::Int(target) => Position::Decided(Ok(local.offset() == 0 && target.offset() == 0)),
@@ -113,9 +110,7 @@ fn ints<'a>(local: &Int, target_type: &BtfType) -> Position<'a>
 
 /// Compares a pointer with another type: the types that both point to are next.
 fn pointers<'a>(local: &Ptr, target_type: &BtfType) -> Position<'a>
-    ensures { type_kind target_type.now ≡ model.Ptr
-        → PositionIs result (λ found. found ≡ position_by 0 model.Ptr local.now
-        (record_of target_type.now)) }
+    ensures { IsOfKind model.Ptr local.now target_type.now result }
 {
     match target_type {
         BtfType::Ptr(target) => Position::On((local.btf_type(), target.btf_type())),
@@ -125,9 +120,7 @@ fn pointers<'a>(local: &Ptr, target_type: &BtfType) -> Position<'a>
 
 /// Compares an array with another type: the element types of both are next.
 fn arrays<'a>(local: &Array, target_type: &BtfType) -> Position<'a>
-    ensures { type_kind target_type.now ≡ model.Array
-        → PositionIs result (λ found. found ≡ position_by 0 model.Array local.now
-        (record_of target_type.now)) }
+    ensures { IsOfKind model.Array local.now target_type.now result }
 {
     match target_type {
         BtfType::Array(target) => {
@@ -141,9 +134,7 @@ fn arrays<'a>(local: &Array, target_type: &BtfType) -> Position<'a>
 /// parameters are next, and then the return types.
 #[inline(always)]
 fn prototypes<'a>(ids: (u32, u32), local: &'a FuncProto, target_type: &'a BtfType) -> Position<'a>
-    ensures position { type_kind target_type.now ≡ model.FuncProto
-        → PositionIs result (λ found. found ≡ position_by 0 model.FuncProto local.now
-        (record_of target_type.now)) }
+    ensures position { IsOfKind model.FuncProto local.now target_type.now result }
     ensures ids { IfPrototypes result (λ ids_of_prototypes. ids_of_prototypes ≡ pair_of ids) }
     ensures few { HasFew result }
 {

@@ -9,7 +9,7 @@
 ghost use Rattle.std.specs.Prelude.{◌≡◌, ℕ, ◌+◌, None, IsSome, [], ◌∷◌, ◌++◌, List, Result, OnOk, MatchOption, true, false};
 ghost use Rattle.std.specs.BTreeSet.{IsEmpty};
 ghost use Rattle.btf_model.specs.Fields.{HaveKinds};
-ghost use Rattle.btf_compare.specs.Compared.{IsStarted, GainsOnly, NotesPrototypes, WalksTo, AreAt, frame_of, passed_in, progress_of, progress_compatible, Compares, StartsPair};
+ghost use Rattle.btf_compare.specs.Compared.{IsStarted, GainsOnly, NotesPrototypes, WalksTo, AreAt, frame_of, passed_in, progress_of, progress_compatible, Compares, ComparesFirst, StartsPair};
 ghost use Rattle.btf_model.specs.Run.{new_frame};
 ghost use Rattle.btf_compare.specs.PairMap.{known_progress, count, Learns};
 ghost use Rattle.btf_compare.specs.Pairs.{pair_of};
@@ -157,7 +157,8 @@ fn start<'a, L: Listed, S: Starts>(
     starts: &mut S,
 ) -> Result<Place<'a>, BtfError>
     requires { L.knows listed.old pair ≡ None }
-    ensures { StartsPair local.now target.now (passed_in passed.now) pair frame.new result (L.learns listed.old listed.new pair (progress_of result)) S.has_added starts.old starts.new }
+    ensures { StartsPair local.now target.now passed.now pair frame.new result
+        (L.learns listed.old listed.new) S.has_added starts.old starts.new }
 {
     let local_type = local.type_by_id(pair.0)?;
     let target_type = target.type_by_id(pair.1)?;
@@ -214,8 +215,8 @@ fn compare_on<S: Starts>(
         (new_frame (pair_of first.pair)) (frame_of first) }
     requires here { AreAt local.now target.now first prototypes }
     requires kinds { HaveKinds target.now }
-    ensures { (before : S) → S.has_added before starts.old (first.pair ∷ [])
-        → Compares local.now target.now (pair_of first.pair) result (S.has_added before starts.new) }
+    ensures { ComparesFirst local.now target.now first.pair result
+        S.has_added starts.old starts.new }
 {
     let mut run = Run::new(allocator_of(local));
     run.seen.insert(first.pair, Progress::Open)?;

@@ -4,7 +4,7 @@ use Rattle.std.specs.Prelude.{not, min, nat_eq, ◌&&◌}
 use Rattle.std.specs.List.{before_first, position_or_len}
 use Rattle.std.specs.Str.{bytes_eq}
 use Rattle.std.proofs.lemmas.List.{take_min}
-use Rattle.btf_elf_model.specs.Section.{ends_name, name_at}
+use Rattle.btf_elf_model.specs.Section.{ends_name, string_from}
 
 -- the elements before the first one that passes the test, by cases on the list
 before_first-cons : {X : Type 0} (p : X → Bool) (x : X) (xs : List X) → before_first p (x ∷ xs) ≡ cond (p x) [] (x ∷ before_first p xs)
@@ -36,8 +36,8 @@ same_front (x ∷ xs) (c ∷ cs) =
 
 pub has_name_lem : (strings name : List ℕ) (offset : ℕ)
     → bytes_eq (before_first ends_name (take (min (length name + 1) (length (drop offset strings))) (drop offset strings))) name
-    ≡ bytes_eq (name_at strings offset) name
-unfolding name_at
+    ≡ bytes_eq (string_from strings offset) name
+unfolding string_from
 has_name_lem strings name offset =
     let rest = drop offset strings in
     let one : length name + 1 ≡ suc (length name) = omega arith in

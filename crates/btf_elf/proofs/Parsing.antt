@@ -3,7 +3,7 @@ use Rattle.std.proofs.Common.{◌≡◌, ◌∙◌, ℕ, List, Option, Result, E
 use Rattle.std.specs.Prelude.{IsErrAnd, MatchResult}
 use Rattle.std.proofs.lemmas.Result.{err_from_is_err_and}
 use Rattle.btf_elf_model.specs.Header.{file_header}
-use Rattle.btf_elf_model.specs.Section.{section_header, section_count, headers_of, sections_of}
+use Rattle.btf_elf_model.specs.Section.{section_header, section_count, headers_of, headers_in}
 use Rattle.btf_elf_model.specs.Symbols.{symbol, symbol_table, symbols_of, symbol_names_of}
 use Rattle.btf_elf_model.specs.Object.{Object, IsObject, symbol_error}
 use Rattle.btf_elf_model.specs.declared.file_header.FileHeader.{FileHeader}
@@ -19,14 +19,14 @@ use Rattle.btf_elf.specs.declared.symbols.SymbolTable.{SymbolTable}
 
 -- the headers that the table spells are the sections of the bytes
 pub sections_are : (bytes : List ℕ) (h : FileHeader) (table : List (List ℕ)) (sections : List SectionHeader)
-    → h ≡ file_header bytes → table ≡ section_header_bytes h bytes → sections ≡ map (section_header h.order) table → sections ≡ sections_of bytes
-unfolding sections_of headers_of
+    → h ≡ file_header bytes → table ≡ section_header_bytes h bytes → sections ≡ map (section_header h.order) table → sections ≡ headers_in bytes
+unfolding headers_in headers_of
 sections_are bytes h table sections p q r =
     r ∙ ap (map (section_header h.order)) q ∙ ap (λ (x : FileHeader). headers_of x (section_count x bytes) bytes) p
 
 -- what `parse` returns if an error comes first
 pub refused : (bytes : List ℕ) (h : FileHeader) (sections : List SectionHeader) (e : ParseError) (r : Result Object ObjectError)
-    → IsErrAnd r (λ x. x ≡ Parse e) → h ≡ file_header bytes → sections ≡ sections_of bytes → Comes (errors_of bytes h sections) e
+    → IsErrAnd r (λ x. x ≡ Parse e) → h ≡ file_header bytes → sections ≡ headers_in bytes → Comes (errors_of bytes h sections) e
     → MatchResult r (IsObject bytes) (IsElfError bytes)
 refused bytes h sections e r err p q comes =
     let at = err_from_is_err_and r err in
@@ -34,11 +34,11 @@ refused bytes h sections e r err p q comes =
     (sym (by_parts bytes h sections p q) ∙ first_comes (errors_of bytes h sections) e comes)
 
 -- the bytes represent the object, if there is no error
-pub parsed : (bytes : List ℕ) (h : FileHeader) (headers sections : List SectionHeader) → h ≡ file_header bytes → headers ≡ sections_of bytes
+pub parsed : (bytes : List ℕ) (h : FileHeader) (headers sections : List SectionHeader) → h ≡ file_header bytes → headers ≡ headers_in bytes
     → headers ≡ sections → NoneComes (errors_of bytes h headers) → IsObject bytes (record { header = h; sections = sections; bytes = bytes })
 parsed bytes h headers sections p q same none = record {
   no_error = sym (by_parts bytes h headers p q) ∙ none_comes (errors_of bytes h headers) none;
-  object = λ i. let r : sections ≡ sections_of bytes = sym same ∙ q in record { header = p i; sections = r i; bytes = bytes };
+  object = λ i. let r : sections ≡ headers_in bytes = sym same ∙ q in record { header = p i; sections = r i; bytes = bytes };
 }
 
 -- what was checked for the symbols that were read holds for the symbols of the bytes

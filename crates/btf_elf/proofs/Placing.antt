@@ -6,7 +6,7 @@ use Rattle.std.proofs.lemmas.Bool.{ltb-false, lt-ltb, leb-true, and_cases, and_p
 use Rattle.std.proofs.lemmas.List.{get_or-take, get_or-drop, length-drop, length-take-le}
 use Rattle.std.proofs.lemmas.List.Folds.{list_any-append, list_any_at}
 use Rattle.btf_elf_model.specs.Section.{has_bytes}
-use Rattle.btf_elf_model.specs.Replaced.{shares_bytes, fits, aligned, Apart}
+use Rattle.btf_elf_model.specs.Replaced.{shares_bytes, fits_in_place, aligned, Apart}
 use Rattle.btf_elf_model.specs.declared.section_header.SectionHeader.{SectionHeader}
 
 -- ---- the place of a section
@@ -45,10 +45,10 @@ pub aligned_above : (n alignment : ℕ) → n ≤ aligned n alignment
 aligned_above n alignment = omega arith
 
 -- If bytes fit, they are at most as many as the section has, and share no byte with any other section.
-pub fits_apart : (sections : List SectionHeader) (index : ℕ) (s : SectionHeader) (len : ℕ) → index < length sections → fits sections index s len ≡ true
+pub fits_apart : (sections : List SectionHeader) (index : ℕ) (s : SectionHeader) (len : ℕ) → index < length sections → fits_in_place sections index s len ≡ true
     → (len ≤ s.size) × ((k : ℕ) (d : SectionHeader) → k ≢ index → k < length sections → has_bytes (get_or sections k d) ≡ true
     → Apart (get_or sections k d).offset (get_or sections k d).size s.offset len)
-unfolding fits
+unfolding fits_in_place
 fits_apart sections index s len within fit =
     let parts = and_parts (nat_le len s.size) (not (list_any (shares_bytes s.offset len) (remove sections index))) fit in (
       leb-true len s.size parts.0,

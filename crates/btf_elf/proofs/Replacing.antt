@@ -8,7 +8,7 @@ use Rattle.std.proofs.lemmas.List.{length-set, get_or-set_other, get_or-set_same
 use Rattle.std.proofs.lemmas.List.Recursion.{found_set_other}
 use Rattle.std.proofs.lemmas.Option.{slice_get_past, slice_get-get_or, slice_get_within, get_or_from_slice_get}
 use Rattle.btf_elf_model.specs.Header.{file_header_len, file_header}
-use Rattle.btf_elf_model.specs.Section.{table_end, sections_of, has_bytes, contents, is_past_end, is_over_headers, is_string_table, is_name_offset, strings_in, string_table, link_of_first, names_index, sht_strtab, sht_symtab}
+use Rattle.btf_elf_model.specs.Section.{table_end, headers_in, has_bytes, contents, is_past_end, is_over_headers, is_string_table, is_name_offset, strings_in, string_table, link_of_first, names_index, sht_strtab, sht_symtab}
 use Rattle.btf_elf_model.specs.Symbols.{symbol, symbol_len, is_symbol_table, symbol_table, is_malformed, symbol_entries, symbols_of, symbol_names_of}
 use Rattle.btf_elf_model.specs.Object.{Object, IsObject, names_of, object_of, parse_error, identification_error, table_error, name_error, symbol_table_error, symbol_error, error_when}
 use Rattle.btf_elf_model.specs.Replaced.{ReplacesSection, is_replaceable, place, moved_header}
@@ -29,7 +29,7 @@ link-set (x ∷ xs) (suc i) v lt = refl
 
 module _ (bytes : List ℕ) (index : ℕ) (s : SectionHeader) (given new : List ℕ) (w : IsWritten bytes index s given new) where
   abbrev ss : List SectionHeader
-  ss = sections_of bytes
+  ss = headers_in bytes
 
   abbrev h : FileHeader
   h = file_header bytes
@@ -234,8 +234,8 @@ pub record IsRewrite (o : Object) (index : ℕ) (s : SectionHeader) (given file 
 written_of : (bytes : List ℕ) (index : ℕ) (s : SectionHeader) (given file : List ℕ) → IsRewrite (object_of bytes) index s given file → IsWritten bytes index s given file
 written_of bytes index s given file r = record {
   no_error = r.valid.no_error;
-  within = slice_get_within (sections_of bytes) index s r.section;
-  header = get_or_from_slice_get (sections_of bytes) index s s r.section;
+  within = slice_get_within (headers_in bytes) index s r.section;
+  header = get_or_from_slice_get (headers_in bytes) index s s r.section;
   replaceable = r.replaceable;
   spare = max (length bytes) (place (object_of bytes) index s (length given) + length given) - length bytes;
   room = omega arith;
@@ -258,7 +258,7 @@ pub header_within : (o : Object) (index : ℕ) (s : SectionHeader) → IsObject 
 header_within o index s valid is =
     let h = file_header o.bytes in
     let lt = slice_get_within o.sections index s is in
-    let sections : length o.sections ≡ length (sections_of o.bytes) = ap (λ (x : Object). length x.sections) valid.object in
+    let sections : length o.sections ≡ length (headers_in o.bytes) = ap (λ (x : Object). length x.sections) valid.object in
     let count = written.length-sections o.bytes in
     let fits = table_fits h o.bytes (no_errors o.bytes valid.no_error).1.1.0 (omega (arith, lt, sections, count)) in
     let place : o.header.section_headers ≡ h.section_headers = ap (λ (x : Object). x.header.section_headers) valid.object in

@@ -8,9 +8,9 @@ use Rattle.std.proofs.Math.Seq.{drop-append_seam}
 use Rattle.btf_model.specs.Word.{bytes_of, number_of, word_of}
 use Rattle.btf_model.specs.Blob.{slice, word_at}
 use Rattle.btf_elf_model.specs.Header.{file_header_len, front, file_header, header_in, order_of, xword_at}
-use Rattle.btf_elf_model.specs.Section.{section_header, headers_of, section_count, table_end, sections_of, has_bytes, contents, is_over_headers, sht_strtab, sht_symtab}
+use Rattle.btf_elf_model.specs.Section.{section_header, headers_of, section_count, table_end, headers_in, has_bytes, contents, is_over_headers, sht_strtab, sht_symtab}
 use Rattle.btf_elf_model.specs.Object.{object_of, parse_error}
-use Rattle.btf_elf_model.specs.Replaced.{is_replaceable, place, fits, alignment_of, aligned, moved_header, place_in_header, Apart}
+use Rattle.btf_elf_model.specs.Replaced.{is_replaceable, place, fits_in_place, alignment_of, aligned, moved_header, place_in_header, Apart}
 use Rattle.btf_elf_model.specs.declared.file_header.FileHeader.{FileHeader}
 use Rattle.btf_elf_model.specs.declared.section_header.SectionHeader.{SectionHeader}
 use Rattle.btf_elf.specs.Writing.{put}
@@ -23,8 +23,8 @@ use Rattle.btf_elf.proofs.Entries.{length-xword, number_of-bytes_of, slice-first
 -- These are new bytes of an object, in which the bytes of the section of an index were replaced.
 pub record IsWritten (bytes : List ℕ) (index : ℕ) (s : SectionHeader) (given new : List ℕ) : Type 0 where
   pub no_error : parse_error bytes ≡ None
-  pub within : index < length (sections_of bytes)
-  pub header : get_or (sections_of bytes) index s ≡ s
+  pub within : index < length (headers_in bytes)
+  pub header : get_or (headers_in bytes) index s ≡ s
   pub replaceable : is_replaceable index s ≡ true
   pub spare : ℕ
   pub room : length bytes + spare ≡ max (length bytes) (place (object_of bytes) index s (length given) + length given)
@@ -34,8 +34,8 @@ pub record IsWritten (bytes : List ℕ) (index : ℕ) (s : SectionHeader) (given
       (bytes_of w64 (file_header bytes).order (place (object_of bytes) index s (length given)) ++ bytes_of w64 (file_header bytes).order (length given))
       (put (place (object_of bytes) index s (length given)) given (bytes ++ replicate spare 0))
 
-pub length-sections : (bytes : List ℕ) → length (sections_of bytes) ≡ section_count (file_header bytes) bytes
-unfolding sections_of
+pub length-sections : (bytes : List ℕ) → length (headers_in bytes) ≡ section_count (file_header bytes) bytes
+unfolding headers_in
 length-sections bytes = length-headers (file_header bytes) (section_count (file_header bytes) bytes) bytes
 
 -- ---- the place
@@ -59,37 +59,37 @@ module _ (bytes : List ℕ) (index : ℕ) (s : SectionHeader) (given new : List 
       let b = and_parts (nat_lt 0 index) (has_bytes s) c.0 in
       (ltb-true 0 index b.0, b.1, not-true (s.kind == sht_strtab) c.1, not-true (s.kind == sht_symtab) d.1)
 
-  pub count_is : section_count h bytes ≡ length (sections_of bytes)
+  pub count_is : section_count h bytes ≡ length (headers_in bytes)
   count_is = sym (length-sections bytes)
 
   pub table : TableFits h bytes
   table = table_fits h bytes (no_errors bytes w.no_error).1.1.0 (omega (arith, w.within, count_is))
 
-  pub old_sections : SectionsFit h bytes (sections_of bytes)
-  old_sections = sections_fit h bytes (sections_of bytes) (no_errors bytes w.no_error).1.1.1.0
+  pub old_sections : SectionsFit h bytes (headers_in bytes)
+  old_sections = sections_fit h bytes (headers_in bytes) (no_errors bytes w.no_error).1.1.1.0
 
   -- the bytes of the section are not written into the headers
   pub at_clear : IsClear h.section_headers (table_end h bytes) at (length given)
   unfolding place
   at_clear some =
-      cond_both (fits (sections_of bytes) index s (length given)) s.offset (aligned (length bytes) (alignment_of s))
+      cond_both (fits_in_place (headers_in bytes) index s (length given)) s.offset (aligned (length bytes) (alignment_of s))
       (λ n. (file_header_len ≤ n) × ((table_end h bytes ≤ n) ⊎ (n + length given ≤ h.section_headers)))
       (λ fit.
-      let few = (fits_apart (sections_of bytes) index s (length given) w.within fit).0 in
+      let few = (fits_apart (headers_in bytes) index s (length given) w.within fit).0 in
       let clear = not_over h.section_headers (table_end h bytes) s (ap (is_over_headers h.section_headers (table_end h bytes)) (sym w.header) ∙ old_sections.clear index s w.within) is_some.1 (omega (arith, some, few)) in
       (clear.0, ⊎_elim (λ le. inl le) (λ le. inr (omega (arith, le, few))) clear.1))
       (λ _. let above = aligned_above (length bytes) (alignment_of s) in
       (omega (arith, above, table.behind, table.within), inl (omega (arith, above, table.within))))
 
   -- they are not written into the bytes of any other section
-  pub at_apart : (k : ℕ) (d : SectionHeader) → k ≢ index → k < length (sections_of bytes) → has_bytes (get_or (sections_of bytes) k d) ≡ true
-      → Apart (get_or (sections_of bytes) k d).offset (get_or (sections_of bytes) k d).size at (length given)
+  pub at_apart : (k : ℕ) (d : SectionHeader) → k ≢ index → k < length (headers_in bytes) → has_bytes (get_or (headers_in bytes) k d) ≡ true
+      → Apart (get_or (headers_in bytes) k d).offset (get_or (headers_in bytes) k d).size at (length given)
   unfolding place
   at_apart k d other lt some =
-      let t = get_or (sections_of bytes) k d in
-      cond_both (fits (sections_of bytes) index s (length given)) s.offset (aligned (length bytes) (alignment_of s))
+      let t = get_or (headers_in bytes) k d in
+      cond_both (fits_in_place (headers_in bytes) index s (length given)) s.offset (aligned (length bytes) (alignment_of s))
       (λ n. Apart t.offset t.size n (length given))
-      (λ fit. (fits_apart (sections_of bytes) index s (length given) w.within fit).1 k d other lt some)
+      (λ fit. (fits_apart (headers_in bytes) index s (length given) w.within fit).1 k d other lt some)
       (λ _ _ _. inl (omega (arith, aligned_above (length bytes) (alignment_of s), not_past (length bytes) t (old_sections.within k d lt) some)))
 
   -- the two words of the header
@@ -165,7 +165,7 @@ module _ (bytes : List ℕ) (index : ℕ) (s : SectionHeader) (given new : List 
 
   -- ---- the section headers
 
-  header_kept : (k : ℕ) → k ≢ index → k < length (sections_of bytes)
+  header_kept : (k : ℕ) → k ≢ index → k < length (headers_in bytes)
       → slice (h.section_headers + file_header_len * k) file_header_len new ≡ slice (h.section_headers + file_header_len * k) file_header_len bytes
   header_kept k other lt =
       keeps (h.section_headers + file_header_len * k) file_header_len (omega (arith, lt, count_is, table.within))
@@ -202,7 +202,7 @@ module _ (bytes : List ℕ) (index : ℕ) (s : SectionHeader) (given new : List 
       ∙ number_of-bytes_of h.order (length given) w.short
 
   header_was : section_header h.order (slice entry file_header_len bytes) ≡ s
-  unfolding sections_of
+  unfolding headers_in
   header_was = sym (header_at h (section_count h bytes) bytes index s (omega (arith, w.within, count_is))) ∙ w.header
 
   -- the section's header has another offset and size
@@ -231,39 +231,39 @@ module _ (bytes : List ℕ) (index : ℕ) (s : SectionHeader) (given new : List 
       }
 
   -- the section headers of the new bytes
-  pub sections_same : sections_of new ≡ slice_set (sections_of bytes) index (moved_header at (length given) s)
-  unfolding sections_of
+  pub sections_same : headers_in new ≡ slice_set (headers_in bytes) index (moved_header at (length given) s)
+  unfolding headers_in
   sections_same =
-      headers_new ∙ ext_get_or s (headers_of h (section_count h bytes) new) (slice_set (sections_of bytes) index (moved_header at (length given) s))
-      (length-headers h (section_count h bytes) new ∙ count_is ∙ sym (length-set (sections_of bytes) index (moved_header at (length given) s)))
+      headers_new ∙ ext_get_or s (headers_of h (section_count h bytes) new) (slice_set (headers_in bytes) index (moved_header at (length given) s))
+      (length-headers h (section_count h bytes) new ∙ count_is ∙ sym (length-set (headers_in bytes) index (moved_header at (length given) s)))
       (λ k lt. each k (omega (arith, lt, length-headers h (section_count h bytes) new, count_is)))
     where
-      headers_new : sections_of new ≡ headers_of h (section_count h bytes) new
+      headers_new : headers_in new ≡ headers_of h (section_count h bytes) new
       headers_new = ap (λ (x : FileHeader). headers_of x (section_count x new) new) header_same ∙ ap (λ (n : ℕ). headers_of h n new) count_same
 
-      at_old : (k : ℕ) → k < length (sections_of bytes) → get_or (sections_of bytes) k s ≡ section_header h.order (slice (h.section_headers + file_header_len * k) file_header_len bytes)
+      at_old : (k : ℕ) → k < length (headers_in bytes) → get_or (headers_in bytes) k s ≡ section_header h.order (slice (h.section_headers + file_header_len * k) file_header_len bytes)
       at_old k lt = header_at h (section_count h bytes) bytes k s (omega (arith, lt, count_is))
 
-      each : (k : ℕ) → k < length (sections_of bytes) → get_or (headers_of h (section_count h bytes) new) k s ≡ get_or (slice_set (sections_of bytes) index (moved_header at (length given) s)) k s
+      each : (k : ℕ) → k < length (headers_in bytes) → get_or (headers_of h (section_count h bytes) new) k s ≡ get_or (slice_set (headers_in bytes) index (moved_header at (length given) s)) k s
       each k lt =
           header_at h (section_count h bytes) new k s (omega (arith, lt, count_is))
           ∙ ⊎_elim
           (λ same. ap (λ (n : ℕ). section_header h.order (slice (h.section_headers + file_header_len * n) file_header_len new)) same
           ∙ header_moved
-          ∙ sym (get_or-set_same (sections_of bytes) index (moved_header at (length given) s) s w.within)
-          ∙ ap (λ (n : ℕ). get_or (slice_set (sections_of bytes) index (moved_header at (length given) s)) n s) (sym same))
+          ∙ sym (get_or-set_same (headers_in bytes) index (moved_header at (length given) s) s w.within)
+          ∙ ap (λ (n : ℕ). get_or (slice_set (headers_in bytes) index (moved_header at (length given) s)) n s) (sym same))
           (λ other. ap (section_header h.order) (header_kept k other lt)
           ∙ sym (at_old k lt)
-          ∙ sym (get_or-set_other (sections_of bytes) index k (moved_header at (length given) s) s other))
+          ∙ sym (get_or-set_other (headers_in bytes) index k (moved_header at (length given) s) s other))
           (cases_eq k index)
 
   -- ---- the bytes of sections
 
-  pub contents_kept : (k : ℕ) (d : SectionHeader) → k ≢ index → k < length (sections_of bytes)
-      → contents new (get_or (sections_of bytes) k d) ≡ contents bytes (get_or (sections_of bytes) k d)
+  pub contents_kept : (k : ℕ) (d : SectionHeader) → k ≢ index → k < length (headers_in bytes)
+      → contents new (get_or (headers_in bytes) k d) ≡ contents bytes (get_or (headers_in bytes) k d)
   unfolding contents
   contents_kept k d other lt =
-      let t = get_or (sections_of bytes) k d in
+      let t = get_or (headers_in bytes) k d in
       ⊎_elim
       (λ some.
       let clear = not_over h.section_headers (table_end h bytes) t (old_sections.clear k d lt) some in

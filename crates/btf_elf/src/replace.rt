@@ -5,7 +5,7 @@ ghost use Rattle.std.specs.Int.{w64};
 ghost use Rattle.std.specs.List.{list_any};
 ghost use Rattle.btf_model.specs.Word.{bytes_of};
 ghost use Rattle.btf_elf_model.specs.Header.{file_header_len};
-ghost use Rattle.btf_elf_model.specs.Replaced.{is_replaceable, shares_bytes, fits, alignment_of, aligned};
+ghost use Rattle.btf_elf_model.specs.Replaced.{is_replaceable, shares_bytes, fits_in_place, alignment_of, aligned};
 ghost use Rattle.btf_elf.specs.Writing.{put, up_to, place_words, file_with_section};
 
 use crate::section::has_bytes;
@@ -49,10 +49,10 @@ fn any_shares(sections: &[SectionHeader], offset: u64, len: u64) -> bool
 }
 
 /// Whether `len` bytes fit in the place of a section.
-#[tactic(auto, unfolding(btf_elf_model::specs::Replaced::fits))]
+#[tactic(auto, unfolding(btf_elf_model::specs::Replaced::fits_in_place))]
 pub fn fits(sections: &[SectionHeader], index: usize, section: &SectionHeader, len: u64) -> bool
     requires { index < length sections.now }
-    ensures { result ≡ fits sections.now index section.now len }
+    ensures { result ≡ fits_in_place sections.now index section.now len }
 {
     let offset = section.offset;
     let before = &sections[..index];

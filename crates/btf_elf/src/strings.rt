@@ -4,7 +4,7 @@ ghost use Rattle.std.specs.Prelude.{◌≡◌, ◌<◌, ◌≤◌, Some, not, po
 ghost use Rattle.std.specs.List.{before_first};
 ghost use Rattle.std.specs.Option.{option_copied};
 ghost use Rattle.std.specs.Str.{bytes_eq};
-ghost use Rattle.btf_elf_model.specs.Section.{ends_name, is_string_table, is_name_offset, name_at, string_table, names_index};
+ghost use Rattle.btf_elf_model.specs.Section.{ends_name, is_string_table, is_name_offset, string_from, string_table, names_index};
 ghost use Rattle.btf_elf_model.specs.Object.{names_of, name_error};
 ghost use Rattle.btf_elf.specs.Results.{HasError};
 
@@ -82,9 +82,9 @@ fn before_zero(bytes: &[u8]) -> &[u8]
 }
 
 /// The name at an offset: the bytes up to the first zero byte.
-#[tactic(auto, unfolding(btf_elf_model::specs::Section::name_at))]
+#[tactic(auto, unfolding(btf_elf_model::specs::Section::string_from))]
 pub fn name_at(strings: &[u8], offset: u32) -> &[u8]
-    ensures { result.now ≡ name_at strings.now offset }
+    ensures { result.now ≡ string_from strings.now offset }
 {
     before_zero(tail(strings, u64::from(offset)))
 }
@@ -99,9 +99,9 @@ fn front(bytes: &[u8], most: usize) -> &[u8]
 
 /// The name at an offset; None if it has `limit` bytes or more. Reads at most `limit` bytes.
 pub fn short_name(strings: &[u8], offset: u32, limit: usize) -> Option<&[u8]>
-    ensures some { IfSome result (λ name. (name.now ≡ name_at strings.now offset)
+    ensures some { IfSome result (λ name. (name.now ≡ string_from strings.now offset)
         × (length name.now < limit)) }
-    ensures none { IfNone result (limit ≤ length (name_at strings.now offset)) }
+    ensures none { IfNone result (limit ≤ length (string_from strings.now offset)) }
 {
     let rest = tail(strings, u64::from(offset));
     match first_zero(front(rest, limit)) {
@@ -113,7 +113,7 @@ pub fn short_name(strings: &[u8], offset: u32, limit: usize) -> Option<&[u8]>
 
 /// Whether the name at an offset is this one. It reads at most one byte more than the name has.
 pub fn has_name(strings: &[u8], offset: u32, name: &[u8]) -> bool
-    ensures { result ≡ bytes_eq (name_at strings.now offset) name.now }
+    ensures { result ≡ bytes_eq (string_from strings.now offset) name.now }
 {
     let rest = tail(strings, u64::from(offset));
     let len = (name.len() + 1).min(rest.len());

@@ -2,7 +2,7 @@
 use Rattle.std.proofs.Common.{◌≡◌, ◌⊎◌, ◌∙◌, ℕ, Bool, true, false, List, [], ◌∷◌, Option, None, Some, refl, ap, inl, inr}
 use Rattle.std.specs.Prelude.{option_map}
 use Rattle.btf_elf_model.specs.Header.{front, file_header}
-use Rattle.btf_elf_model.specs.Section.{sections_of}
+use Rattle.btf_elf_model.specs.Section.{headers_in}
 use Rattle.btf_elf_model.specs.Symbols.{symbol_table, symbols_of, symbol_names_of}
 use Rattle.btf_elf_model.specs.Object.{names_of, first_error, error_when, identification_error, header_error, table_error, section_error, name_error, symbol_table_error, symbol_error, parse_error}
 use Rattle.btf_elf_model.specs.declared.file_header.FileHeader.{FileHeader}
@@ -40,7 +40,7 @@ errors_of bytes h sections =
     ∷ symbol_error (symbol_names_of bytes sections (symbol_table sections)) (symbols_of h.order bytes (symbol_table sections))
     ∷ []
 
-pub by_parts : (bytes : List ℕ) (h : FileHeader) (sections : List SectionHeader) → h ≡ file_header bytes → sections ≡ sections_of bytes
+pub by_parts : (bytes : List ℕ) (h : FileHeader) (sections : List SectionHeader) → h ≡ file_header bytes → sections ≡ headers_in bytes
     → first_error (errors_of bytes h sections) ≡ parse_error bytes
 unfolding parse_error
 by_parts bytes h sections p q =
@@ -52,9 +52,9 @@ all_none [] none = tt
 all_none (None ∷ more) none = (refl, all_none more none)
 all_none (Some e ∷ more) none = cc
 
-pub no_errors : (bytes : List ℕ) → parse_error bytes ≡ None → NoneComes (errors_of bytes (file_header bytes) (sections_of bytes))
+pub no_errors : (bytes : List ℕ) → parse_error bytes ≡ None → NoneComes (errors_of bytes (file_header bytes) (headers_in bytes))
 unfolding parse_error
-no_errors bytes none = all_none (errors_of bytes (file_header bytes) (sections_of bytes)) none
+no_errors bytes none = all_none (errors_of bytes (file_header bytes) (headers_in bytes)) none
 
 pub when_none : (b : Bool) (e : ParseError) → error_when b e ≡ None → b ≡ false
 when_none true e is = cc

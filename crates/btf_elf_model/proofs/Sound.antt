@@ -8,7 +8,7 @@ use Rattle.std.proofs.lemmas.List.{length-take-le, length-drop, get_or-drop}
 use Rattle.std.proofs.lemmas.List.Sums.{fails_before_first, passes_at_first}
 use Rattle.std.proofs.lemmas.Option.{slice_get-get_or, slice_get_within, get_or_from_slice_get}
 use Rattle.btf_elf_model.specs.Header.{file_header_len, file_header}
-use Rattle.btf_elf_model.specs.Section.{table_end, sections_of, has_bytes, is_past_end, is_over_headers, contents, ends_name, is_string_table, is_name_offset, name_at, strings_in, string_table}
+use Rattle.btf_elf_model.specs.Section.{table_end, headers_in, has_bytes, is_past_end, is_over_headers, contents, ends_name, is_string_table, is_name_offset, string_from, strings_in, string_table}
 use Rattle.btf_elf_model.specs.Symbols.{is_malformed, symbol_table, symbol_names_of, symbol_len}
 use Rattle.btf_elf_model.specs.Object.{Object, IsObject, name_table, symbols, symbol_names, error_when, name_error, symbol_table_error, symbol_error}
 use Rattle.btf_elf_model.specs.Laws.{Ends}
@@ -23,7 +23,7 @@ use Rattle.btf_elf_model.proofs.Tests.{none_passes, not_past, not_over, Sections
 fit : (bytes : List ℕ) (o : Object) → IsObject bytes o → SectionsFit o.header bytes o.sections
 fit bytes o is =
     subst (λ (x : Object). SectionsFit x.header bytes x.sections) (sym is.object)
-    (sections_fit (file_header bytes) bytes (sections_of bytes) (no_errors bytes is.no_error).1.1.1.0)
+    (sections_fit (file_header bytes) bytes (headers_in bytes) (no_errors bytes is.no_error).1.1.1.0)
 
 pub within : (bytes : List ℕ) (o : Object) (index : ℕ) (s : SectionHeader) → IsObject bytes o → slice_get o.sections index ≡ Some s → has_bytes s ≡ true
     → s.offset + s.size ≤ length bytes
@@ -47,8 +47,8 @@ first_not_after p xs k d passes =
     ⊎_elim (λ lt. absurd (both_ways (p (get_or xs k d)) (fails_before_first p xs k d lt) passes)) (λ le. le) (cases_lt k (position_or_len p xs))
 
 -- in a table that ends with a zero byte each name ends
-name_ends : (strings : List ℕ) (offset : ℕ) → offset < length strings → get_or strings (length strings - 1) 0 ≡ 0 → slice_get strings (offset + length (name_at strings offset)) ≡ Some 0
-unfolding name_at
+name_ends : (strings : List ℕ) (offset : ℕ) → offset < length strings → get_or strings (length strings - 1) 0 ≡ 0 → slice_get strings (offset + length (string_from strings offset)) ≡ Some 0
+unfolding string_from
 name_ends strings offset lt last =
     let rest = drop offset strings in
     let len : length rest ≡ length strings - offset = length-drop offset strings in

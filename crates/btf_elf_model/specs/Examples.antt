@@ -1,7 +1,7 @@
 -- Worked examples of the definitions, computed.
 use Rattle.std.specs.Prelude.{◌≡◌, ℕ, List, [], ◌∷◌, ◌++◌, Some, None, refl, replicate, true, false}
 use Rattle.btf_elf_model.specs.Header.{xword_at, file_header}
-use Rattle.btf_elf_model.specs.Section.{name_at, is_string_table, string_table, names_index, headers_of, section_count, sections_of}
+use Rattle.btf_elf_model.specs.Section.{string_from, is_string_table, string_table, names_index, headers_of, section_count, headers_in}
 use Rattle.btf_elf_model.specs.Symbols.{symbol}
 use Rattle.btf_elf_model.specs.Object.{parse_error, identification_error, header_error, table_error, section_error, name_error, symbol_table_error, symbol_error}
 use Rattle.btf_elf_model.specs.Replaced.{aligned}
@@ -18,9 +18,9 @@ names : List ℕ
 names = 0 ∷ 0x61 ∷ 0x62 ∷ 0 ∷ []
 
 names_in_a_table :
-    (name_at names 0 ≡ []) × (name_at names 1 ≡ 0x61 ∷ 0x62 ∷ []) × (name_at names 2 ≡ 0x62 ∷ [])
-    × (name_at names 3 ≡ [])
-unfolding names name_at
+    (string_from names 0 ≡ []) × (string_from names 1 ≡ 0x61 ∷ 0x62 ∷ []) × (string_from names 2 ≡ 0x62 ∷ [])
+    × (string_from names 3 ≡ [])
+unfolding names string_from
 names_in_a_table = (refl, refl, refl, refl)
 
 -- a string table is empty, or begins and ends with a zero byte
@@ -48,8 +48,8 @@ unfolding header_with file_header
 header_words = (refl, refl)
 
 -- the header alone is an object without sections
-no_sections : (parse_error (header_with 2 0) ≡ None) × (sections_of (header_with 2 0) ≡ [])
-unfolding header_with file_header sections_of headers_of section_count parse_error identification_error header_error table_error section_error name_error string_table names_index symbol_table_error symbol_error
+no_sections : (parse_error (header_with 2 0) ≡ None) × (headers_in (header_with 2 0) ≡ [])
+unfolding header_with file_header headers_in headers_of section_count parse_error identification_error header_error table_error section_error name_error string_table names_index symbol_table_error symbol_error
 no_sections = (refl, refl)
 
 -- an object of 32 bits, bytes without the magic, and a section header table after the end

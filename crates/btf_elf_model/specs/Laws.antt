@@ -1,7 +1,7 @@
 -- The laws of the definitions. Each is the contract of a public function of this crate.
 use Rattle.std.specs.Prelude.{◌≡◌, ◌⊎◌, ℕ, ◌+◌, ◌<◌, ◌≤◌, true, List, [], length, slice_get, Some, unwrap_or}
 use Rattle.btf_elf_model.specs.Header.{file_header_len}
-use Rattle.btf_elf_model.specs.Section.{has_bytes, table_end, name_at}
+use Rattle.btf_elf_model.specs.Section.{has_bytes, table_end, string_from}
 use Rattle.btf_elf_model.specs.Object.{Object, IsObject, IsParseError, name_table, symbols, symbol_names}
 use Rattle.btf_elf_model.specs.declared.section_header.SectionHeader.{SectionHeader}
 use Rattle.btf_elf_model.specs.declared.symbol.Symbol.{Symbol}
@@ -17,7 +17,7 @@ pub record ObjectIsDetermined : Type 0 where
 -- A name of a string table ends: a zero byte is right after the name, or it is the empty name in an empty table.
 abbrev pub Ends : List ℕ → ℕ → Type 0
 Ends strings offset =
-    ((strings ≡ []) × (offset ≡ 0)) ⊎ (slice_get strings (offset + length (name_at strings offset)) ≡ Some 0)
+    ((strings ≡ []) × (offset ≡ 0)) ⊎ (slice_get strings (offset + length (string_from strings offset)) ≡ Some 0)
 
 -- What holds for bytes without errors: sections with bytes are in the file, and share no bytes with the file header and
 -- the table of section headers; and the names of sections and symbols end.

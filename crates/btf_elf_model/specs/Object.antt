@@ -5,7 +5,7 @@ use Rattle.std.specs.Prelude.{◌≡◌, ℕ, ◌==◌, ◌||◌, ◌&&◌, not,
 use Rattle.std.specs.List.{starts_with}
 use Rattle.std.specs.Option.{option_and_then}
 use Rattle.btf_elf_model.specs.Header.{magic, file_header_len, class_of, elf_encoding, identification_version, front, file_header}
-use Rattle.btf_elf_model.specs.Section.{table_end, sections_of, contents, is_past_end, is_over_headers, is_name_offset, name_at, string_table, names_index}
+use Rattle.btf_elf_model.specs.Section.{table_end, headers_in, contents, is_past_end, is_over_headers, is_name_offset, string_from, string_table, names_index}
 use Rattle.btf_elf_model.specs.Symbols.{symbol_table, is_malformed, symbols_of, symbol_names_of}
 use Rattle.btf_elf_model.specs.declared.file_header.FileHeader.{FileHeader}
 use Rattle.btf_elf_model.specs.declared.section_header.SectionHeader.{SectionHeader}
@@ -21,7 +21,7 @@ pub record Object : Type 0 where
 
 -- the object that bytes represent, if they have no error
 abbrev pub object_of : List ℕ → Object
-object_of bytes = record { header = file_header bytes; sections = sections_of bytes; bytes = bytes }
+object_of bytes = record { header = file_header bytes; sections = headers_in bytes; bytes = bytes }
 
 -- the bytes of a section
 abbrev pub section_bytes : Object → SectionHeader → List ℕ
@@ -37,7 +37,7 @@ name_table o = names_of o.header o.bytes o.sections
 
 -- the name of a section
 abbrev pub section_name : Object → SectionHeader → List ℕ
-section_name o s = name_at (unwrap_or (name_table o) []) s.name
+section_name o s = string_from (unwrap_or (name_table o) []) s.name
 
 -- the symbols, by their indices
 abbrev pub symbols : Object → List Symbol
@@ -49,7 +49,7 @@ symbol_names o = symbol_names_of o.bytes o.sections (symbol_table o.sections)
 
 -- the name of a symbol
 abbrev pub symbol_name : Object → Symbol → List ℕ
-symbol_name o s = name_at (symbol_names o) s.name
+symbol_name o s = string_from (symbol_names o) s.name
 
 -- ---- errors
 

@@ -22,8 +22,8 @@ shares_bytes offset len s =
 
 -- len bytes fit in the place of a section: the section has at least len bytes, and no other section has one of these
 -- bytes.
-unfoldable pub fits : List SectionHeader → ℕ → SectionHeader → ℕ → Bool
-fits sections index s len =
+unfoldable pub fits_in_place : List SectionHeader → ℕ → SectionHeader → ℕ → Bool
+fits_in_place sections index s len =
     nat_le len s.size && not (list_any (shares_bytes s.offset len) (remove sections index))
 
 -- the alignment of a section in the file: its own alignment, but at most 4096
@@ -37,7 +37,7 @@ aligned n alignment = n + (if n % alignment == 0 then 0 else (alignment - n % al
 -- The offset for len bytes of a section: the offset of the section if they fit there, else the aligned end of the file.
 unfoldable pub place : Object → ℕ → SectionHeader → ℕ → ℕ
 place o index s len =
-    if fits o.sections index s len then s.offset else aligned (length o.bytes) (alignment_of s)
+    if fits_in_place o.sections index s len then s.offset else aligned (length o.bytes) (alignment_of s)
 
 -- the number of bytes between the end of the file and len bytes of a section, if these are appended; 0 otherwise
 abbrev pub gap_len : Object → ℕ → SectionHeader → ℕ → ℕ

@@ -44,8 +44,8 @@ abbrev pub table_end : FileHeader → List ℕ → ℕ
 table_end h bytes = h.section_headers + file_header_len * max 1 (section_count h bytes)
 
 -- the section headers of bytes
-unfoldable pub sections_of : List ℕ → List SectionHeader
-sections_of bytes = let h = file_header bytes in headers_of h (section_count h bytes) bytes
+unfoldable pub headers_in : List ℕ → List SectionHeader
+headers_in bytes = let h = file_header bytes in headers_of h (section_count h bytes) bytes
 
 -- ---- contents
 
@@ -96,8 +96,8 @@ abbrev pub is_name_offset : List ℕ → ℕ → Bool
 is_name_offset strings offset = (offset == 0) || nat_lt offset (length strings)
 
 -- the name at an offset: the bytes from there up to the first zero byte
-unfoldable pub name_at : List ℕ → ℕ → List ℕ
-name_at strings offset = before_first ends_name (drop offset strings)
+unfoldable pub string_from : List ℕ → ℕ → List ℕ
+string_from strings offset = before_first ends_name (drop offset strings)
 
 -- the string table in a section; none if the section has another type, or its bytes are no string table
 abbrev pub strings_in : List ℕ → SectionHeader → Option (List ℕ)

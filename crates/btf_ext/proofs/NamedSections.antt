@@ -26,7 +26,7 @@ use Rattle.btf_model.specs.declared.endianness.Endianness.{Endianness}
 use Rattle.btf_plain.specs.declared.error.BtfError.{BtfError}
 use Rattle.btf_plain.specs.Error.{refusal_of}
 use Rattle.btf_ext.specs.Info.{AreByName, GainsUnder}
-use Rattle.btf_ext.specs.SecInfo.{section_of, GivesSection, AreReadableSections}
+use Rattle.btf_ext.specs.SecInfo.{section_of, GivesSection, ReadsSections}
 use Rattle.btf_ext.specs.declared.sections.SecInfo.{SecInfo}
 use Rattle.btf_ext.proofs.Copies.{eq_flips}
 use Rattle.btf_ext.proofs.Parts.{CutSoFar, cut_one, cut_all}
@@ -85,7 +85,7 @@ one_more_met order size strings bytes sections more rest next met now s h gives 
     }
 
 -- all are read
-pub all_met : (order : Endianness) (size : ℕ) (strings bytes : List ℕ) (sections : List Section) (rest : SectionBytes) (met : BTreeSet ℕ) → MetSoFar order size strings bytes sections rest met → rest.bytes ≡ [] → AreReadableSections order size strings bytes (Ok sections)
+pub all_met : (order : Endianness) (size : ℕ) (strings bytes : List ℕ) (sections : List Section) (rest : SectionBytes) (met : BTreeSet ℕ) → MetSoFar order size strings bytes sections rest met → rest.bytes ≡ [] → ReadsSections order size strings bytes (Ok sections)
 all_met order size strings bytes sections rest met h done = (h.names, h.same, (cut_all order size bytes (sections_of h.names) rest h.cut done, h.have))
 
 -- an offset that is not new was met
@@ -160,7 +160,7 @@ pub record TakenSoFar (order : Endianness) (width : ℕ) (strings : List ℕ) (p
   pub found : (q : List ℕ) → found_in q ≡ records_named order width p after q
 
 -- before the last
-pub none_taken : (order : Endianness) (width : ℕ) (strings : List ℕ) (p : Part) (sections left : List SecInfo) (taken : BTreeSet ℕ) (found : List ℕ → Option Records) → AreReadableSections order p.size strings p.bytes (Ok (map section_of sections)) → left ≡ sections → IsEmpty taken → ((q : List ℕ) → found q ≡ None) → TakenSoFar order width strings p left taken found
+pub none_taken : (order : Endianness) (width : ℕ) (strings : List ℕ) (p : Part) (sections left : List SecInfo) (taken : BTreeSet ℕ) (found : List ℕ → Option Records) → ReadsSections order p.size strings p.bytes (Ok (map section_of sections)) → left ≡ sections → IsEmpty taken → ((q : List ℕ) → found q ≡ None) → TakenSoFar order width strings p left taken found
 none_taken order width strings p sections left taken found h is empty none = record {
   before = h.0;
   after = [];

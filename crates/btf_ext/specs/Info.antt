@@ -3,7 +3,7 @@ use Rattle.std.specs.Prelude.{◌≡◌, ℕ, if◌then◌else◌, List, [], ◌
 use Rattle.std.specs.HashMap.{get_by_text}
 use Rattle.std.specs.Option.{option_or}
 use Rattle.std.specs.Str.{bytes_eq}
-use Rattle.btf_model.specs.Ext.{Part, Named, Records, AreNamed, records_named}
+use Rattle.btf_model.specs.Ext.{Part, Named, Records, AreNamed, records_named, instruction_records}
 use Rattle.btf_model.specs.Refusal.{Refusal}
 use Rattle.btf_model.specs.declared.endianness.Endianness.{Endianness}
 use Rattle.btf_ext.specs.declared.info.by_section.BySection.{BySection}
@@ -14,6 +14,7 @@ use Rattle.btf_ext.specs.declared.info.line.LineSecInfo.{LineSecInfo}
 use Rattle.btf_model.specs.Table.{Table}
 use Rattle.btf_model.specs.Text.{text_at}
 use Rattle.btf_ext.specs.declared.sections.SecInfo.{SecInfo}
+use Rattle.btf_ext.specs.SecInfo.{section_of}
 
 -- the words of a function record
 abbrev pub func_words : bpf_func_info → List ℕ
@@ -56,7 +57,9 @@ AreByName order width strings p (Ok found) =
     × ((name : List ℕ) → found name ≡ records_named order width p sections name)
 AreByName order width strings p (Err refusal) = AreNamed order p.size strings p.bytes (Err refusal)
 
--- The records are added under the name of a section.
-abbrev pub GainsSection : Table → SecInfo → Records → (List ℕ → Option Records) → (List ℕ → Option Records) → Type 0
-GainsSection t section records old new =
-    (text : List ℕ) → text_at t.strings section.name_offset ≡ Ok text → GainsUnder text records old new
+-- The instructions and words of a section's records, of this size and of this number of words, are added under its name.
+abbrev pub GainsSection : Table → Endianness → ℕ → ℕ → SecInfo → (List ℕ → Option Records)
+    → (List ℕ → Option Records) → Type 0
+GainsSection t order size width section old new =
+    (text : List ℕ) → text_at t.strings section.name_offset ≡ Ok text
+    → GainsUnder text (instruction_records order size width (section_of section)) old new

@@ -1,6 +1,6 @@
 -- A `SecInfo` and the iterator `SecInfoIter` in the model's terms, and sections whose names can be read.
 use Rattle.std.specs.Prelude.{◌≡◌, ◌≢◌, ℕ, List, [], ◌++◌, Option, Some, None, Result, Ok, Err, MatchOption, drop, length, ◌<◌, ◌≤◌, MatchResult}
-use Rattle.btf_model.specs.Ext.{Section, SectionBytes, Named, IsSection, BeginsNoSection, AreNamed, ext_section_bytes, sections_of, cut_refusal}
+use Rattle.btf_model.specs.Ext.{Section, SectionBytes, Named, IsSection, BeginsNoSection, AreNamed, ext_section_bytes, sections_of, cut_refusal, record_words}
 use Rattle.btf_model.specs.Refusal.{Refusal}
 use Rattle.btf_model.specs.declared.endianness.Endianness.{Endianness}
 use Rattle.btf_plain.specs.declared.error.BtfError.{BtfError}
@@ -27,10 +27,10 @@ GivesSection before (Some (Err e)) after =
 
 -- The result of reading the sections of a part and checking that each name can be read: the sections, without their
 -- names, or the error.
-abbrev pub AreReadableSections : Endianness → ℕ → List ℕ → List ℕ → Result (List Section) Refusal → Type 0
-AreReadableSections order size strings bytes (Ok sections) =
+abbrev pub ReadsSections : Endianness → ℕ → List ℕ → List ℕ → Result (List Section) Refusal → Type 0
+ReadsSections order size strings bytes (Ok sections) =
     (named : List Named) × (sections_of named ≡ sections) × AreNamed order size strings bytes (Ok named)
-AreReadableSections order size strings bytes (Err refusal) = AreNamed order size strings bytes (Err refusal)
+ReadsSections order size strings bytes (Err refusal) = AreNamed order size strings bytes (Err refusal)
 
 -- The result is the two words before the records of a section and the bytes after them; None if there are fewer
 -- bytes.
@@ -46,3 +46,7 @@ SplitsSection bytes rec_size endianness result =
     × (bytes ≡ ext_section_bytes endianness (section_of x.0) ++ x.1.now))
     (λ e. BeginsNoSection endianness rec_size bytes
     × (refusal_of e ≡ Some (cut_refusal endianness rec_size bytes)))
+
+-- the first words of each record of a section, by the size of a record and the number of words
+abbrev pub section_words : Endianness → ℕ → ℕ → SecInfo → List (List ℕ)
+section_words order size width s = record_words order size width s.num_info s.bytes.now

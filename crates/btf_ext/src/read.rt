@@ -5,7 +5,7 @@ ghost use Rattle.std.specs.List.{AllByRecursion};
 ghost use Rattle.btf_model.specs.Ext.{AreSections, IsSection, relocation_section};
 ghost use Rattle.btf_model.specs.Text.{text_at};
 ghost use Rattle.btf_plain.specs.Error.{MeetsOrNoMemory, IsOrNoMemory};
-ghost use Rattle.btf_ext.specs.SecInfo.{section_of, AreReadableSections};
+ghost use Rattle.btf_ext.specs.SecInfo.{section_of, ReadsSections};
 ghost use Rattle.btf_ext.specs.Relocation.{relocation};
 
 use crate::header::Part;
@@ -53,7 +53,7 @@ pub fn readable_sections<'a>(
     endianness: Endianness,
     btf: &Btf,
 ) -> Result<Vec<SecInfo<'a>>, BtfError>
-    ensures { MeetsOrNoMemory (λ v. map section_of v.items) result (AreReadableSections
+    ensures { MeetsOrNoMemory (λ v. map section_of v.items) result (ReadsSections
         endianness part.now.rec_size btf.now.strings part.now.sections.now) }
 {
     let mut sections = Vec::new(alloc);

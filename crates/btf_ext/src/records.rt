@@ -3,7 +3,7 @@
 ghost use Rattle.std.specs.Prelude.{◌≡◌, ℕ, ◌*◌, ◌≤◌, List, length, map, IfOk};
 ghost use Rattle.btf_model.specs.Word.{words_at};
 ghost use Rattle.btf_model.specs.Ext.{IsSection, record_words};
-ghost use Rattle.btf_ext.specs.SecInfo.{section_of};
+ghost use Rattle.btf_ext.specs.SecInfo.{section_of, section_words};
 
 use crate::sections::SecInfo;
 use crate::words::four_words;
@@ -53,8 +53,7 @@ pub fn read_records<T: Record>(
     requires whole { IsSection rec_size (section_of section.now) }
     requires wide { 4 * T.width ≤ rec_size }
     ensures { IfOk result (λ v. map T.words v.items ≡ map T.read_as
-        (record_words endianness rec_size T.width section.now.num_info
-        section.now.bytes.now)) }
+        (section_words endianness rec_size T.width section.now)) }
 {
     let mut records = Vec::with_capacity(alloc, section.num_info as usize)?;
     let mut rest = section.bytes;

@@ -1,14 +1,18 @@
 -- What the steps of the loader return, in the definitions' terms.
-use Rattle.std.specs.Prelude.{ℕ, option_map, Bool, true, false, List}
+use Rattle.std.specs.Prelude.{ℕ, option_map, Bool, true, false, List, Option, Some, map}
 use Rattle.btf_model.specs.Table.{Table}
 use Rattle.btf_relocate_model.specs.Modules.{KernelSetting, Targets}
-use Rattle.btf_loader_model.specs.Loader.{Outcomes, relocated_file, relocated_at, section_at}
+use Rattle.btf_loader_model.specs.Loader.{Outcomes, relocated_file, relocated_at, section_at, IsRelocatedAmong}
 use Rattle.btf_relocate.specs.Modules.{targets_view}
 use Rattle.btf_loader.specs.declared.step.Loader.{Loader}
 use Rattle.btf_loader.specs.declared.step.Refusals.{Refusals}
 use Rattle.btf_loader.specs.declared.step.Refusals.TheVariants.{Refuse, Keep}
 use Rattle.btf_loader.specs.declared.step.SectionOutcomes.{SectionOutcomes}
 use Rattle.btf_relocate.specs.Sections.{is_shared}
+use Rattle.btf_elf_model.specs.declared.section_header.SectionHeader.{SectionHeader}
+use Rattle.btf_loader_model.specs.Refused.{Reason, records_reason, sections_reason}
+use Rattle.btf_relocate.specs.declared.section.CandidatePolicy.{CandidatePolicy}
+use Rattle.btf_relocate.specs.declared.modules.Targets as code
 
 -- the outcomes of a section of records, with the string offset of its name
 abbrev pub outcomes_of : SectionOutcomes → ℕ × Outcomes
@@ -32,8 +36,31 @@ abbrev pub file_relocated : Loader → List ℕ → List (ℕ × List (List ℕ)
 file_relocated loader file sections =
     relocated_file (loader_setting loader) (is_shared loader.policy) loader.object.now file sections
 
--- the same for the section of records whose name is at this string offset
-abbrev pub records_relocated : Loader → List ℕ → ℕ → List (List ℕ) → Outcomes × List ℕ
-records_relocated loader file name_offset records =
+-- why it does not relocate them, if it does not
+abbrev pub file_reason : Loader → List ℕ → List (ℕ × List (List ℕ)) → Option Reason
+file_reason loader file sections =
+    sections_reason (loader_setting loader) (is_shared loader.policy) (refuses_errors loader.refusals)
+    loader.object.now file sections
+
+-- what it makes of a file and one section of records, by the string offset of its name
+abbrev pub section_relocated : Loader → List ℕ → ℕ × List (List ℕ) → Outcomes × List ℕ
+section_relocated loader file section =
     relocated_at (loader_setting loader) (is_shared loader.policy)
-    (section_at (loader_setting loader) loader.object.now name_offset) file records
+    (section_at (loader_setting loader) loader.object.now section.0) file section.1
+
+-- why it does not relocate that, if it does not
+abbrev pub loader_section_reason : Loader → List ℕ → ℕ × List (List ℕ) → Option Reason
+loader_section_reason loader file section =
+    records_reason (loader_setting loader) (is_shared loader.policy) (refuses_errors loader.refusals)
+    loader.object.now file section
+
+-- what it makes of a file and the records of a section of the object
+abbrev pub code_relocated : Loader → List ℕ → SectionHeader → List (List ℕ) → Outcomes × List ℕ
+code_relocated loader file section records =
+    relocated_at (loader_setting loader) (is_shared loader.policy) (Some section) file records
+
+-- The bytes are an object with a table, and these are the outcomes of its records for a kernel with modules, and the
+-- file with its code relocated.
+abbrev pub HasRelocated : List ℕ → code.Targets → CandidatePolicy → List SectionOutcomes → List ℕ → Type 0
+HasRelocated bytes targets policy outcomes file =
+    IsRelocatedAmong bytes (targets_view targets) (is_shared policy) (map outcomes_of outcomes) file

@@ -1,10 +1,10 @@
 //! Objects whose code is relocated.
 
 ghost use Rattle.std.specs.Prelude.{◌≡◌, false, length, map, option_map, None, IfOk, IfErr, OnOk};
-ghost use Rattle.btf_loader_model.specs.Loader.{IsRelocated, IsRelocatedAmong, any_error, bytes_named};
+ghost use Rattle.btf_loader_model.specs.Loader.{IsRelocated, any_error, bytes_named};
 ghost use Rattle.btf_loader_model.specs.Refused.{IsReason, IsReasonAmong};
 ghost use Rattle.btf_loader.specs.Errors.{IsLoaderCause};
-ghost use Rattle.btf_loader.specs.Results.{outcomes_of, refuses_errors};
+ghost use Rattle.btf_loader.specs.Results.{HasRelocated, outcomes_of, refuses_errors};
 ghost use Rattle.btf_loader.specs.declared.step.Refusals.TheVariants.{Refuse};
 ghost use Rattle.btf_relocate.specs.Modules.{targets_view};
 ghost use Rattle.btf_relocate.specs.Sections.{is_shared};
@@ -111,9 +111,8 @@ pub fn relocate_object_among<H: BuildHasher + Clone + Drop>(
     hash_builder: H,
 ) -> Result<(Vec<u8>, Vec<SectionOutcomes>), LoaderError>
     // The outcomes of the records, and the object of the bytes with its code relocated.
-    ensures relocated { IfOk result (λ r. IsRelocatedAmong bytes.now (targets_view targets.now)
-        (is_shared policy)
-        (map outcomes_of r.1.items) r.0.items) }
+    ensures relocated { IfOk result (λ r. HasRelocated bytes.now targets.now policy r.1.items
+        r.0.items) }
     // Under `Refuse` no outcome is an error.
     ensures refused { IfOk result (λ r. refusals ≡ Refuse
         → any_error (map outcomes_of r.1.items) ≡ false) }

@@ -2,8 +2,7 @@
 
 ghost use Rattle.std.specs.Prelude.{◌≡◌, false, map, None, IfOk, IfErr};
 ghost use Rattle.btf_loader_model.specs.Loader.{any_error};
-ghost use Rattle.btf_loader_model.specs.Prepared.{IsPrepared};
-ghost use Rattle.btf_loader.specs.Prepared.{IsPrepareCause};
+ghost use Rattle.btf_loader.specs.Prepared.{HasPrepared, IsPrepareCause};
 ghost use Rattle.btf_loader.specs.Results.{outcomes_of, refuses_errors};
 ghost use Rattle.btf_loader.specs.declared.step.Refusals.TheVariants.{Refuse};
 ghost use Rattle.btf_object.specs.Errors.{target_of};
@@ -45,9 +44,8 @@ pub fn prepare_object(
     fill: FillPolicy,
 ) -> Result<Prepared, PrepareError>
     // The code is relocated first, and the table of the relocated object is rewritten.
-    ensures prepared { IfOk result (λ p. IsPrepared bytes.now target.now (is_shared policy)
-        (target_of kernel.now fill None) (map outcomes_of p.outcomes.items) p.answers.items
-        p.file.items) }
+    ensures prepared { IfOk result (HasPrepared bytes.now target.now policy
+        (target_of kernel.now fill None)) }
     // Under `Refuse` no outcome is an error.
     ensures refused { IfOk result (λ p. refusals ≡ Refuse
         → any_error (map outcomes_of p.outcomes.items) ≡ false) }

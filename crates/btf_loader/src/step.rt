@@ -9,7 +9,7 @@ ghost use Rattle.btf_loader_model.specs.Refused.{BadRecord, BadSectionName, bad_
 ghost use Rattle.btf_loader.specs.Errors.{Reports};
 ghost use Rattle.btf_loader.specs.Names.{HasIndices};
 ghost use Rattle.btf_loader.specs.Places.{HasPlaces};
-ghost use Rattle.btf_loader.specs.Results.{outcomes_of, refuses_errors, loader_setting, file_relocated, records_relocated};
+ghost use Rattle.btf_loader.specs.Results.{code_relocated, file_reason, file_relocated, loader_setting, outcomes_of, loader_section_reason, section_relocated};
 ghost use Rattle.btf_loader.specs.declared.step.Refusals.TheVariants.{Refuse};
 ghost use Rattle.btf_relocate.specs.Sections.{is_shared};
 ghost use Rattle.btf_table.specs.Readable.{IsReadableEnd};
@@ -76,9 +76,8 @@ impl<'a, 'o, 't> Loader<'a, 'o, 't> {
             → any_error (map outcomes_of r.items) ≡ false) }
         ensures readable { OnOk result (list_any (is_unreadable self.now.local.now.strings)
             (map relocation relocations.now) ≡ false) }
-        ensures reports { Reports (sections_reason (loader_setting self.now)
-            (is_shared self.now.policy) (refuses_errors self.now.refusals) self.now.object.now
-            file.old (map relocation relocations.now)) result }
+        ensures reports { Reports (file_reason self.now file.old (map relocation relocations.now))
+            result }
     {
         let mut all = Vec::with_capacity(self.alloc, relocations.len())?;
         for index in 0..relocations.len() {
@@ -99,14 +98,14 @@ impl<'a, 'o, 't> Loader<'a, 'o, 't> {
         requires placed { HasPlaces self.now.places.now self.now.object.now.sections }
         requires readable { IfSome self.now.readable_end (IsReadableEnd self.now.local.now.strings) }
         ensures relocated { IfOk result
-            (λ r. (option_map (λ v. v.items) r, file.new) ≡ records_relocated self.now file.old section.now.0 section.now.1.items) }
+            (λ r. (option_map (λ v. v.items) r, file.new)
+            ≡ section_relocated self.now file.old (relocation section.now)) }
         ensures refused { IfOk result (λ r. self.now.refusals ≡ Refuse
             → has_error (option_map (λ v. v.items) r) ≡ false) }
         ensures readable { OnOk result
             (is_err (text_at self.now.local.now.strings section.now.0) ≡ false) }
-        ensures reports { Reports (records_reason (loader_setting self.now)
-            (is_shared self.now.policy) (refuses_errors self.now.refusals) self.now.object.now
-            file.old (relocation section.now)) result }
+        ensures reports { Reports (loader_section_reason self.now file.old (relocation section.now))
+            result }
     {
         let Some(index) = self.index_of(section.0)? else {
             return Ok(None);
@@ -129,9 +128,8 @@ impl<'a, 'o, 't> Loader<'a, 'o, 't> {
         records: &[[u32; 4]],
         file: &mut [u8],
     ) -> Result<Vec<Outcome>, AllocError>
-        ensures { IfOk result (λ outcomes. (Some outcomes.items, file.new)
-            ≡ relocated_at (loader_setting self.now)
-            (is_shared self.now.policy) (Some section.now) file.old records.now) }
+        ensures { IfOk result (λ v. (Some v.items, file.new)
+            ≡ code_relocated self.now file.old section.now records.now) }
     {
         let start = file.len().min(section.offset as usize);
         let len = (file.len() - start).min(section.size as usize);

@@ -12,7 +12,7 @@ use Rattle.std.proofs.lemmas.Slice.Eq.{bytes_eq-Decides}
 use Rattle.btf_model.specs.Blob.{canon}
 use Rattle.btf_elf_model.specs.Object.{Object, IsObject, section_name}
 use Rattle.btf_elf_model.specs.Replaced.{ReplacesSection, moved_header, place}
-use Rattle.btf_elf_model.specs.Section.{has_bytes, name_at}
+use Rattle.btf_elf_model.specs.Section.{has_bytes, string_from}
 use Rattle.btf_elf_model.specs.declared.section_header.SectionHeader.{SectionHeader}
 use Rattle.btf_object_model.specs.Layout.{name_limit}
 use Rattle.btf_object_model.specs.Sanitized.{first_section_index, table_name}
@@ -47,7 +47,7 @@ module _ (old : Object) (at : ℕ) (s : SectionHeader) (given : List ℕ) (new :
   index_stays : (name : List ℕ) → code_index new name ≡ code_index old name
   index_stays name =
       ap (λ (found : Option ℕ). if nat_lt (length name) name_limit then found else None)
-      (ap (λ (names : Option (List ℕ)). position (λ (t : SectionHeader). has_bytes t && bytes_eq (name_at (unwrap_or names []) t.name) name) new.sections) r.names
+      (ap (λ (names : Option (List ℕ)). position (λ (t : SectionHeader). has_bytes t && bytes_eq (string_from (unwrap_or names []) t.name) name) new.sections) r.names
       ∙ ap (position (is_code old name)) r.sections
       ∙ position_stays (is_code old name) old.sections at s changed header refl)
 

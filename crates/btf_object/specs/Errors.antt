@@ -15,7 +15,7 @@ use Rattle.btf_elf_model.specs.declared.section_header.SectionHeader.{SectionHea
 use Rattle.btf_rewrite_model.specs.declared.feature.BtfFeature.{BtfFeature}
 use Rattle.btf_rewrite_model.specs.declared.feature.FeatureAnswer.{FeatureAnswer}
 use Rattle.btf_rewrite_model.specs.declared.feature.FillPolicy.{FillPolicy}
-use Rattle.btf_object_model.specs.Sanitized.{Target, HasSection, RewritesTable, RefusesTable, first_section_index, table_name}
+use Rattle.btf_object_model.specs.Sanitized.{Target, HasSection, RewritesTable, RefusesTable, first_section_index, table_name, AreAnswers}
 use Rattle.btf_object_model.specs.SanitizedFinalized.{RewritesFinalized, RefusesFinalized}
 use Rattle.btf_plain.specs.Error.{refusal_of}
 use Rattle.btf_plain.specs.declared.error.BtfError.{BtfError}
@@ -26,6 +26,9 @@ use Rattle.btf_object.specs.declared.error.SanitizeError.{SanitizeError}
 use Rattle.btf_object.specs.declared.error.SanitizeError.TheVariants.{Object, NoTable, Table as TableError, Section, OutOfMemory}
 use Rattle.btf_model.specs.Blob.{canon}
 use Rattle.btf_object_model.specs.Finalized.{with_ksyms_size, with_old_sizes}
+use Rattle.btf_rewrite_model.specs.Pass.{Layout, Asked}
+use Rattle.btf_rewrite_model.specs.Rewritten.{pass_of}
+use Rattle.btf_rewrite_model.specs.declared.ksyms_ids.KsymsIds.{KsymsIds}
 
 -- ---- errors of the steps
 
@@ -50,6 +53,16 @@ target_of kernel policy placeholder = record { has = kernel_has kernel; policy =
 -- the same with a placeholder that the code holds
 abbrev pub target_for : Kernel → FillPolicy → Option (Bor (List ℕ)) → Target
 target_for kernel policy placeholder = target_of kernel policy (option_map (λ name. name.now) placeholder)
+
+-- The answers are the kernel's, to the features that the rewrite of a table asks for.
+abbrev pub AnswersPass : Kernel → FillPolicy → Table → Option KsymsIds → Layout → List FeatureAnswer → Type 0
+AnswersPass kernel policy old ids layout answers =
+    AreAnswers (target_of kernel policy None) (Asked (pass_of policy old ids layout answers)) answers
+
+-- The bytes of a section represent a table, and the written bytes are those of its rewrite.
+abbrev pub WritesRewritten : elf.Object → List ℕ → Target → List ℕ → List FeatureAnswer → Type 0
+WritesRewritten o bytes target written answers =
+    (old new : Table) × RewritesTable o bytes target old new answers × (written ≡ canon new)
 
 -- The bytes represent no object; or the object has no section `.BTF`; or the table of this section is refused; or it is
 -- rewritten, and the section cannot be replaced. An allocation may fail in each step.

@@ -1,5 +1,5 @@
 -- What the steps find and make that finalize a table and set the sizes of STRUCTs.
-use Rattle.std.specs.Prelude.{◌≡◌, ◌≢◌, ℕ, if◌then◌else◌, List, length, map, Option, Some, None, Result, Ok, Err, Vec, is_some}
+use Rattle.std.specs.Prelude.{◌≡◌, ◌≢◌, ℕ, if◌then◌else◌, List, length, map, Option, Some, None, Result, Ok, Err, Vec, is_some, IfOk}
 use Rattle.std.specs.BTreeMap.{BTreeMap, get}
 use Rattle.std.specs.Option.{unwrap_or}
 use Rattle.std.specs.Ordering.{nat_cmp}
@@ -17,6 +17,7 @@ use Rattle.btf_table.specs.Layout.{layout_of}
 use Rattle.btf_object.specs.declared.finalize.known.KnownNames.{KnownNames}
 use Rattle.btf_object.specs.declared.layout.ObjectLayout.{ObjectLayout}
 use Rattle.std.specs.List.{list_all}
+use Rattle.btf_plain.specs.declared.error.BtfError.{BtfError}
 
 -- ---- names
 
@@ -28,6 +29,18 @@ layout_in layout = layout_of layout.sections layout.symbols
 abbrev pub symbol_of : Layout → Result (List ℕ) Refusal → Option (Option ℕ)
 symbol_of layout (Ok name) = Some (in_a_word (layout.symbols name))
 symbol_of layout (Err refusal) = None
+
+-- In any layout with these sizes, the size of the section of a name is the one that is read.
+abbrev pub ReadsSize : {X : Type 0} → (List ℕ → Option ℕ) → Result (List ℕ) Refusal
+    → Result (Option ℕ × X) BtfError → Type 0
+ReadsSize sizes name result =
+    (layout : Layout) → layout.sections ≡ sizes → IfOk result (λ r. r.0 ≡ known_section_size layout name)
+
+-- In any layout with these offsets, the offset of the symbol of a name is the one that is read.
+abbrev pub ReadsSymbol : {X : Type 0} → (List ℕ → Option ℕ) → Result (List ℕ) Refusal
+    → Result (Option (Option ℕ) × X) BtfError → Type 0
+ReadsSymbol offsets name result =
+    (layout : Layout) → layout.symbols ≡ offsets → IfOk result (λ r. r.0 ≡ symbol_of layout name)
 
 -- Each cached value is the one that `find` gives for the name at its string offset.
 abbrev pub AreCached : {V : Type 0} → (Result (List ℕ) Refusal → V) → List ℕ → BTreeMap ℕ V → Type 0

@@ -46,3 +46,7 @@ pub record IsTableSection (o : Object) (index : ℕ) (bytes : List ℕ) : Type 0
   pub first : first_section_index o table_name ≡ Some index
   pub here : slice_get o.sections index ≡ Some section
   pub bytes_are : bytes ≡ section_bytes o section
+
+-- the text is this name, and a rewrite may ask for it
+abbrev pub IsAskable : List ℕ → List ℕ → Type 0
+IsAskable name text = (text ≡ name) × (is_askable name ≡ true)

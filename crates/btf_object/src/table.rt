@@ -9,8 +9,8 @@ ghost use Rattle.btf_rewrite_model.specs.FeatureSet.{answers_of};
 ghost use Rattle.btf_object_model.specs.Sanitized.{RewritesTable, RefusesTable, AreAnswers};
 ghost use Rattle.btf_object_model.specs.SanitizedFinalized.{RefusesFinalized};
 ghost use Rattle.btf_plain.specs.Error.{refusal_of};
-ghost use Rattle.btf_object.specs.Errors.{target_of, target_for, IsFinalizedBlob};
-ghost use Rattle.btf_object.specs.Kernel.{kernel_has};
+ghost use Rattle.btf_object.specs.Errors.{target_of, target_for, IsFinalizedBlob, WritesRewritten, AnswersPass};
+ghost use Rattle.btf_object.specs.Kernel.{kernel_has, kernel_answers};
 ghost use Rattle.btf_object.specs.Finalize.{layout_in};
 
 use crate::finalize::{add_placeholder, open, set_sizes, sizes_of};
@@ -35,13 +35,12 @@ fn rewrite_for<H: BuildHasher>(
     ids: Option<KsymsIds>,
 ) -> Result<ArrayVec<FeatureAnswer, 8>, BtfError>
     ensures rewritten { IfOk result (λ answers. Rewritten policy btf.old ids
-        (layout_in layout.now) (answers_of (kernel_has kernel.now)) btf.new) }
-    ensures answers { IfOk result (λ answers. AreAnswers (target_of kernel.now policy None)
-        (Asked (pass_of policy btf.old ids
-        (layout_in layout.now) answers.items)) answers.items) }
+        (layout_in layout.now) (kernel_answers kernel.now) btf.new) }
+    ensures answers { IfOk result (λ answers. AnswersPass kernel.now policy btf.old ids
+        (layout_in layout.now) answers.items) }
     ensures order { IfOk result (λ answers. btf.new.order ≡ btf.old.order) }
     ensures refused { IfErr result (λ e. IfSome (refusal_of e) (IsRefused policy btf.old ids
-        (layout_in layout.now) (answers_of (kernel_has kernel.now)))) }
+        (layout_in layout.now) (kernel_answers kernel.now))) }
 {
     let has = |feature: BtfFeature| -> bool
         ensures { result ≡ kernel_has kernel.entry.now feature }
@@ -69,9 +68,8 @@ pub fn rewrite_table<H: BuildHasher + Clone + Drop>(
     placeholder: Option<&str>,
     hash_builder: H,
 ) -> Result<(Vec<u8>, ArrayVec<FeatureAnswer, 8>), BtfError>
-    ensures made { IfOk result (λ r. (old new : Table) × RewritesTable object.now table.now
-        (target_for kernel.now policy placeholder.entry) old new
-        r.1.items × (r.0.items ≡ canon new)) }
+    ensures made { IfOk result (λ r. WritesRewritten object.now table.now
+        (target_for kernel.now policy placeholder.entry) r.0.items r.1.items) }
     ensures refused { IfErr result (λ e. IfSome (refusal_of e) (RefusesTable object.now table.now
         (target_for kernel.now policy placeholder.entry))) }
 {

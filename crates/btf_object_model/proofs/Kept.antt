@@ -16,7 +16,7 @@ use Rattle.btf_model.specs.Text.{text_at}
 use Rattle.btf_model.proofs.Blobs.{same_table}
 use Rattle.btf_model.proofs.Texts.{text_stays}
 use Rattle.btf_model.specs.Table.{with_string, with_type}
-use Rattle.btf_elf_model.specs.Section.{name_at}
+use Rattle.btf_elf_model.specs.Section.{string_from}
 use Rattle.btf_elf_model.specs.Object.{Object, IsObject, section_bytes, section_name}
 use Rattle.btf_elf_model.specs.Replaced.{ReplacesSection, moved_header, place}
 use Rattle.btf_elf_model.specs.declared.section_header.SectionHeader.{SectionHeader}
@@ -113,7 +113,7 @@ module _ (bytes file : List ℕ) (z : IsRewritten bytes file) where
   -- each name is at the same place
   index_stays : (name : List ℕ) → first_section_index new name ≡ first_section_index old name
   index_stays name =
-      ap (λ (names : Option (List ℕ)). position (λ (s : SectionHeader). bytes_eq (name_at (unwrap_or names []) s.name) name) new.sections) written.names
+      ap (λ (names : Option (List ℕ)). position (λ (s : SectionHeader). bytes_eq (string_from (unwrap_or names []) s.name) name) new.sections) written.names
       ∙ ap (position (λ (s : SectionHeader). bytes_eq (section_name old s) name)) written.sections
       ∙ position_stays (λ (s : SectionHeader). bytes_eq (section_name old s) name) old.sections z.index z.header changed z.section.header refl
 

@@ -12,6 +12,9 @@ use Rattle.btf.specs.Pairs.{pair_of, ids_of}
 use Rattle.btf.specs.Compared.{types_of}
 use Rattle.btf_reference.specs.declared.plain_comparison.Position.{Position}
 use Rattle.btf_reference.specs.declared.plain_comparison.Position.TheVariants as positions
+use Rattle.btf_plain.specs.declared.items.BtfParam.{BtfParam}
+use Rattle.btf_records.specs.declared.btf_type.BtfType.{BtfType}
+use Rattle.btf_records.specs.BtfType.{record_of, type_kind}
 
 -- P holds of the position
 abbrev pub PlainPositionIs : Position → (model.Position → Type 0) → Type 0
@@ -35,3 +38,15 @@ abbrev pub Lists : (Result Bool Refusal → List Pair → Type 0) → Result Boo
     → Type 0
 Lists P result old new =
     Meets (λ b. b) result (λ answer. (listed : List Pair) × P answer listed × (new ≡ old ++ map ids_of listed))
+
+-- the position of two types of this kind, by the record of the first
+abbrev pub IsOfPlainKind : Kind → Record → BtfType → Position → Type 0
+IsOfPlainKind kind local target position =
+    type_kind target ≡ kind
+    → PlainPositionIs position (λ found. found ≡ model.position_by 0 kind local (record_of target))
+
+-- The types of parameters are compared with those of others, in order, while the pairs above them are open.
+abbrev pub ComparesParams : Table → Table → List (ℕ × ℕ) → List BtfParam → List BtfParam → Result Bool Refusal
+    → List Pair → Type 0
+ComparesParams local target above params others =
+    model.ComparedInOrder local target (map pair_of above) (pairs (types_of params) (types_of others))

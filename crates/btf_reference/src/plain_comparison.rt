@@ -4,12 +4,12 @@
 ghost use Rattle.std.specs.Prelude.{◌≡◌, ◌∷◌, ◌≤◌, ◌↔◌, true, [], map, Contains, IfOk, IsTrue};
 ghost use Rattle.btf_model.specs.Record as model;
 ghost use Rattle.btf_model.specs.Walk.{walk_limit};
-ghost use Rattle.btf_model.specs.Compat.{Finds, Plain, Walked, ComparedInOrder, PositionFound, ResolvesPair, pairs, position_by};
+ghost use Rattle.btf_model.specs.Compat.{Finds, Plain, Walked, ResolvesPair};
 ghost use Rattle.btf_plain.specs.Error.{Meets};
 ghost use Rattle.btf_records.specs.BtfType.{record_of, type_kind};
-ghost use Rattle.btf.specs.Compared.{types_of};
+ghost use Rattle.btf.specs.Compared.{TypesFind};
 ghost use Rattle.btf.specs.Pairs.{IsResolved, pair_of};
-ghost use Rattle.btf_reference.specs.PlainComparison.{AreStarted, Lists, PlainPositionIs};
+ghost use Rattle.btf_reference.specs.PlainComparison.{AreStarted, ComparesParams, IsOfPlainKind, Lists, PlainPositionIs};
 
 use btf::{Array, Btf, BtfError, BtfParam, BtfType, FuncProto, Int, Ptr};
 use std::alloc::{AllocError, AllocFailed, Global};
@@ -137,9 +137,9 @@ fn walk(
     depth: u32,
 ) -> Result<Result<bool, BtfError>, Stop>
     requires { left ≤ walk_limit }
-    ensures { IfOk result (λ answer. Lists
+    ensures { IfOk result (λ a. Lists
         (Walked local.now target.now (map pair_of above.now) left
-        (pair_of at)) answer starts.old.items starts.new.items) }
+        (pair_of at)) a starts.old.items starts.new.items) }
 {
     if left == 0 {
         return Ok(Err(BtfError::MaximumTypeDepthReached { type_id: at.0 }));
@@ -168,10 +168,9 @@ fn compare_parameters(
     starts: &mut Vec<(u32, u32)>,
     depth: u32,
 ) -> Result<Result<bool, BtfError>, Stop>
-    ensures { IfOk result (λ answer. Lists
-        (ComparedInOrder local.now target.now (map pair_of above.now)
-        (pairs (types_of params.now) (types_of others.now))) answer starts.old.items
-        starts.new.items) }
+    ensures { IfOk result (λ a. Lists
+        (ComparesParams local.now target.now above.now params.now others.now)
+        a starts.old.items starts.new.items) }
 {
     let Some((param, params)) = params.split_first() else {
         return Ok(Ok(true));
@@ -232,8 +231,7 @@ fn resolve(table: &Btf, type_id: u32) -> Result<(u32, &BtfType), BtfError>
 
 /// Compares two types that are no modifiers.
 fn position_in<'a>(local_id: u32, local_type: &'a BtfType, target_type: &'a BtfType) -> Position<'a>
-    ensures { PlainPositionIs result (PositionFound local_id (type_kind local_type.now)
-        (type_kind target_type.now) (record_of local_type.now) (record_of target_type.now)) }
+    ensures { PlainPositionIs result (TypesFind local_id local_type.now target_type.now) }
 {
     if !local_type.is_compatible(target_type) {
         return Position::Decided(Ok(false));
@@ -266,9 +264,7 @@ fn position_in<'a>(local_id: u32, local_type: &'a BtfType, target_type: &'a BtfT
 
 /// Compares an integer with another type: whether that is an integer too, and both begin at bit 0.
 fn ints<'a>(local: &Int, target_type: &BtfType) -> Position<'a>
-    ensures { type_kind target_type.now ≡ model.Int
-        → PlainPositionIs result (λ found. found ≡ position_by 0 model.Int local.now
-        (record_of target_type.now)) }
+    ensures { IsOfPlainKind model.Int local.now target_type.now result }
 {
     match target_type {
         BtfType::Int(target) => Position::Decided(Ok(local.offset() == 0 && target.offset() == 0)),
@@ -278,9 +274,7 @@ fn ints<'a>(local: &Int, target_type: &BtfType) -> Position<'a>
 
 /// Compares a pointer with another type: the types that both point to are next.
 fn pointers<'a>(local: &Ptr, target_type: &BtfType) -> Position<'a>
-    ensures { type_kind target_type.now ≡ model.Ptr
-        → PlainPositionIs result (λ found. found ≡ position_by 0 model.Ptr local.now
-        (record_of target_type.now)) }
+    ensures { IsOfPlainKind model.Ptr local.now target_type.now result }
 {
     match target_type {
         BtfType::Ptr(target) => Position::On((local.btf_type(), target.btf_type())),
@@ -290,9 +284,7 @@ fn pointers<'a>(local: &Ptr, target_type: &BtfType) -> Position<'a>
 
 /// Compares an array with another type: the element types of both are next.
 fn arrays<'a>(local: &Array, target_type: &BtfType) -> Position<'a>
-    ensures { type_kind target_type.now ≡ model.Array
-        → PlainPositionIs result (λ found. found ≡ position_by 0 model.Array local.now
-        (record_of target_type.now)) }
+    ensures { IsOfPlainKind model.Array local.now target_type.now result }
 {
     match target_type {
         BtfType::Array(target) => {
@@ -305,9 +297,7 @@ fn arrays<'a>(local: &Array, target_type: &BtfType) -> Position<'a>
 /// Compares a prototype with another type: if the numbers of parameters are equal, the parameters are next, and then
 /// the return types.
 fn prototypes<'a>(local: &'a FuncProto, target_type: &'a BtfType) -> Position<'a>
-    ensures { type_kind target_type.now ≡ model.FuncProto
-        → PlainPositionIs result (λ found. found ≡ position_by 0 model.FuncProto local.now
-        (record_of target_type.now)) }
+    ensures { IsOfPlainKind model.FuncProto local.now target_type.now result }
 {
     let BtfType::FuncProto(target) = target_type else {
         return Position::Decided(Ok(false));

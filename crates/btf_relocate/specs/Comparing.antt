@@ -197,3 +197,7 @@ abbrev pub AdvancesIn : Frame → Option Bool → Comparison → Progress → Pr
 AdvancesIn frame answer c old new result =
     (root : pairs.Pair) → IsUnderWay c root old.pairs (frame ∷ reverse old.frames.items) answer
     → RunsOn c root new result
+
+-- less work is left than before a step of a comparison was taken out
+abbrev pub TakesWork : Comparison → Frame → Progress → Progress → Type 0
+TakesWork c frame old new = work c new < work c old + steps_left frame

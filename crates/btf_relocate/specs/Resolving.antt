@@ -44,3 +44,12 @@ abbrev pub HasResolved : List ℕ → List ℕ → Result (Resolved × List ℕ)
     → Type 0
 HasResolved old new expected (Ok r) = expected ≡ Ok (r, new)
 HasResolved old new expected (Err e) = ((e ≡ OutOfMemory) ⊎ (expected ≡ Err e)) × (new ≡ old)
+
+-- A record is resolved for its candidates in one table.
+abbrev pub ResolvesFor : Table → Table → List ℕ → List ℕ → List ℕ → Result Resolved RelocationError → Type 0
+ResolvesFor local target words old new result =
+    HasResolved old new (model.resolution (record { local = local; target = target }) old words) result
+
+-- the answer that a candidate has for a question
+abbrev pub answer_for : Table → Table → Question → ℕ → Result (Option Answer) RelocationError
+answer_for local target question = answer_at local target question.kind (subject_view question.subject)

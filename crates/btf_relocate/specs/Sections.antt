@@ -6,7 +6,7 @@ use Rattle.btf_model.specs.Table.{Table}
 use Rattle.btf_model.specs.declared.endianness.Endianness.{Endianness}
 use Rattle.btf_relocate_model.specs.Instruction.{patched_code}
 use Rattle.btf_relocate_model.specs.Resolution.{TablePair, resolution, type_word, instruction_word}
-use Rattle.btf_relocate_model.specs.Section.{patched_outcome, code_after, candidates_after, changed_at}
+use Rattle.btf_relocate_model.specs.Section.{patched_outcome, code_after, candidates_after, changed_at, candidates_of}
 use Rattle.btf_relocate_model.specs.declared.error.RelocationError.{RelocationError}
 use Rattle.btf_relocate_model.specs.declared.instruction.Patched.{Patched}
 use Rattle.btf_relocate_model.specs.declared.resolved.Resolved.{Resolved}
@@ -59,3 +59,9 @@ Relocates is_shared local target left code (words ∷ records) (o ∷ outcomes) 
     × (o ≡ patched_outcome (patch_by local.order code words r))
     × Relocates is_shared local target (left_with is_shared (type_word words) after left)
     (code_after code (patch_by local.order code words r)) records outcomes new
+
+-- The same from the start, when each type has all its candidates.
+abbrev pub RelocatesSection : CandidatePolicy → Table → Table → List ℕ → List (List ℕ)
+    → List (Result Patched RelocationError) → List ℕ → Type 0
+RelocatesSection policy local target code records outcomes new =
+    Relocates (is_shared policy) local target (candidates_of local target) code records outcomes new

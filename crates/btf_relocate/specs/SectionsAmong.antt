@@ -4,15 +4,17 @@ use Rattle.std.specs.BTreeMap.{BTreeMap, get}
 use Rattle.std.specs.Ordering.{nat_cmp}
 use Rattle.btf_model.specs.Table.{Table}
 use Rattle.btf_relocate_model.specs.Modules as model
-use Rattle.btf_relocate_model.specs.Modules.{candidates_among, resolution_among}
+use Rattle.btf_relocate_model.specs.Modules.{candidates_among, resolution_among, relocated_section_among}
 use Rattle.btf_relocate_model.specs.Section.{patched_outcome, code_after, candidates_after, patch_in}
 use Rattle.btf_relocate_model.specs.declared.error.RelocationError.{RelocationError}
 use Rattle.btf_relocate_model.specs.declared.error.RelocationError.TheVariants.{OutOfMemory}
 use Rattle.btf_relocate_model.specs.declared.instruction.Patched.{Patched}
-use Rattle.btf_relocate.specs.Modules.{candidates_view}
+use Rattle.btf_relocate.specs.Modules.{candidates_view, targets_view}
 use Rattle.btf_relocate.specs.declared.modules.Candidates.{Candidates}
 use Rattle.btf_relocate.specs.declared.section.CandidatePolicy.{CandidatePolicy}
 use Rattle.btf_relocate.specs.declared.section.CandidatePolicy.TheVariants.{Shared, Fresh}
+use Rattle.btf_relocate.specs.Sections.{is_shared}
+use Rattle.btf_relocate.specs.declared.modules.Targets.{Targets}
 
 -- the candidates in a map, and others if it has none
 abbrev pub view_or : model.Candidates → Option Candidates → model.Candidates
@@ -33,3 +35,9 @@ RelocatedAmong local ts words before after old new outcome =
     let p = patch_in local.order old words r in
     (candidates_view after ≡ candidates_after (candidates_view before) r) × (outcome ≡ patched_outcome p)
     × (new ≡ code_after old p))
+
+-- the outcomes of the records of a section, and its code after them
+abbrev pub relocated_among : CandidatePolicy → Table → Targets → List ℕ → List (List ℕ)
+    → List (Result Patched RelocationError) × List ℕ
+relocated_among policy local targets code records =
+    relocated_section_among local (targets_view targets) (is_shared policy) code records

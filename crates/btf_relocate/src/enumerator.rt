@@ -1,10 +1,11 @@
 //! Enumerators, by index and by name.
 
-ghost use Rattle.std.specs.Prelude.{◌≡◌, Ok, Err, length, slice_get, MatchResult};
+ghost use Rattle.std.specs.Prelude.{◌≡◌, length, slice_get};
 ghost use Rattle.std.specs.Option.{option_map};
 ghost use Rattle.btf_records.specs.BtfType.{record_of};
 ghost use Rattle.btf_relocate_model.specs.Enumerator as model;
 ghost use Rattle.btf_relocate.specs.Enumerators.{enumerator_variant, type_enumerators};
+ghost use Rattle.btf_relocate.specs.Gives.{IsBy};
 
 use crate::instruction::sign_extended_32;
 use crate::lookup::{name_at, resolve_to_type};
@@ -50,9 +51,8 @@ pub fn enumerator_at(
     type_id: u32,
     index: u32,
 ) -> Result<(Enumerator, &[u8]), RelocationError>
-    ensures { MatchResult result
-        (λ p. model.enumerator_at table.now type_id index ≡ Ok (enumerator_variant p.0, p.1.now))
-        (λ e. model.enumerator_at table.now type_id index ≡ Err e) }
+    ensures { IsBy (λ p. (enumerator_variant p.0, p.1.now))
+        (model.enumerator_at table.now type_id index) result }
 {
     let btf_type = resolve_to_type(table, type_id)?;
     let Some(enumerator) = Enumerator::at(btf_type, index as usize) else {
@@ -68,10 +68,8 @@ pub fn find_enumerator(
     type_id: u32,
     name: &[u8],
 ) -> Result<Option<Enumerator>, RelocationError>
-    ensures { MatchResult result
-        (λ o. model.find_enumerator table.now type_id name.now ≡ Ok
-        (option_map enumerator_variant o))
-        (λ e. model.find_enumerator table.now type_id name.now ≡ Err e) }
+    ensures { IsBy (option_map enumerator_variant)
+        (model.find_enumerator table.now type_id name.now) result }
 {
     let btf_type = resolve_to_type(table, type_id)?;
     for index in 0..count(btf_type) {

@@ -5,7 +5,7 @@ ghost use Rattle.std.specs.Option.{option_map};
 ghost use Rattle.btf_model.specs.Record.{member_bit_offset, member_bit_field_size, is_composite};
 ghost use Rattle.btf_records.specs.BtfType.{record_of, type_kind};
 ghost use Rattle.btf_relocate_model.specs.Field as model;
-ghost use Rattle.btf_relocate.specs.Members.{member_of};
+ghost use Rattle.btf_relocate.specs.Members.{member_of, member_bits};
 ghost use Rattle.btf_relocate.specs.Placed.{resolved_placed};
 
 use crate::lookup::{resolve_id, resolve_to_type, type_at};
@@ -111,10 +111,7 @@ pub fn members(btf_type: &BtfType) -> &[BtfMember]
 
 /// The bit of a STRUCT or UNION at which a member begins, and the number of bits of a bit-field, else 0.
 pub fn bits_of(btf_type: &BtfType, member: &BtfMember) -> (u32, u32)
-    ensures { result ≡ (
-      member_bit_offset (record_of btf_type.now).info member.now.offset,
-      member_bit_field_size (record_of btf_type.now).info member.now.offset,
-    ) }
+    ensures { result ≡ member_bits (record_of btf_type.now).info member.now.offset }
 {
     if btf_type.info() / 0x8000_0000 == 1 {
         (member.offset % 0x100_0000, member.offset / 0x100_0000)

@@ -5,7 +5,7 @@ ghost use Rattle.std.specs.Option.{option_map};
 ghost use Rattle.btf_relocate_model.specs.Match as model;
 ghost use Rattle.btf_relocate_model.specs.Types.{pointer_size};
 ghost use Rattle.btf_relocate.specs.Gives.{GivesBy};
-ghost use Rattle.btf_relocate.specs.Matching.{reached};
+ghost use Rattle.btf_relocate.specs.Matching.{reached, step_from};
 ghost use Rattle.btf_relocate.specs.Paths.{step_of};
 ghost use Rattle.btf_relocate.specs.Searching.{found_of, levels_of};
 
@@ -64,8 +64,8 @@ fn matching_step(
     at: &Reached,
     accessor: &Accessor<'_>,
 ) -> Result<Option<Reached>, RelocationError>
-    ensures { GivesBy (option_map reached) (model.match_step local.now (pointer_size target.now)
-        target.now (reached at.now) (step_of accessor.now)) result }
+    ensures { GivesBy (option_map reached)
+        (step_from local.now target.now at.now accessor.now) result }
 {
     match accessor {
         Accessor::Element(index) => {

@@ -6,7 +6,7 @@
 ghost use Rattle.std.specs.Prelude.{◌≡◌, map, None, IfOk};
 ghost use Rattle.btf_relocate_model.specs.Modules as model;
 ghost use Rattle.btf_relocate.specs.Gives.{GivesBy};
-ghost use Rattle.btf_relocate.specs.Modules.{HasResolvedAmong, answers_view, candidates_view, found_view, targets_view};
+ghost use Rattle.btf_relocate.specs.Modules.{ResolvesAmong, ResolvesInModules, answer_in_table, answers_view, candidates_view, found_view, targets_view};
 ghost use Rattle.btf_relocate.specs.Resolving.{subject_view};
 
 use crate::resolving::{
@@ -94,8 +94,7 @@ pub fn resolve_among(
     record: &[u32; 4],
     candidates: &mut Candidates<'_, '_>,
 ) -> Result<Resolved, RelocationError>
-    ensures { HasResolvedAmong candidates_view candidates.old candidates.new (model.resolution_among
-        local.now (targets_view targets.now) (candidates_view candidates.old) «record».now) result }
+    ensures { ResolvesAmong local.now targets.now «record».now candidates.old candidates.new result }
 {
     match candidates {
         Candidates::InKernel(ids) => resolve(alloc, local, targets.kernel, record, ids),
@@ -113,9 +112,7 @@ fn resolve_in_modules<'a, 't>(
     record: &[u32; 4],
     found: &mut Vec<InModule<'a, 't>>,
 ) -> Result<Resolved, RelocationError>
-    ensures { HasResolvedAmong (λ v. map found_view v.items) found.old found.new
-        (model.resolution_in_modules local.now kernel.now (map found_view found.old.items)
-        «record».now) result }
+    ensures { ResolvesInModules local.now kernel.now «record».now found.old found.new result }
 {
     let type_id = record[1];
     let question = question_of(alloc, local, kernel.table().endianness(), record)?;
@@ -140,8 +137,8 @@ fn answers_among<'a, 't>(
     question: &Question<'_>,
     found: &[InModule<'a, 't>],
 ) -> Result<(Option<Answer>, Vec<InModule<'a, 't>>), RelocationError>
-    ensures { GivesBy answers_view (model.answers_among (model.answer_in local.now question.now.kind
-        (subject_view question.now.subject)) None (map found_view found.now)) result }
+    ensures { GivesBy answers_view (model.answers_among (answer_in_table local.now question.now)
+        None (map found_view found.now)) result }
 {
     let mut common = None;
     let mut matching = Vec::with_capacity(alloc, found.len())?;

@@ -2,7 +2,7 @@
 
 ghost use Rattle.std.specs.Prelude.{◌≡◌, Ok, Err, map, MatchResult};
 ghost use Rattle.btf_relocate_model.specs.Path as model;
-ghost use Rattle.btf_relocate.specs.Gives.{GivesBy};
+ghost use Rattle.btf_relocate.specs.Gives.{GivesBy, IsBy};
 ghost use Rattle.btf_relocate.specs.Paths.{place_of, model_path};
 
 use crate::access::Access;
@@ -77,9 +77,7 @@ impl<'t> Path<'t> {
 
 /// The place that an index leads to from another place.
 fn place_at<'t>(table: &'t Btf, around: &Field, index: u32) -> Result<Place<'t>, RelocationError>
-    ensures { MatchResult result
-        (λ p. model.place_at table.now around.now index ≡ Ok (place_of p))
-        (λ e. model.place_at table.now around.now index ≡ Err e) }
+    ensures { IsBy place_of (model.place_at table.now around.now index) result }
 {
     let Some((field, name_offset)) = member(table, around, index)? else {
         let Some(field) = element(table, LOCAL_POINTER_SIZE, around, index)? else {

@@ -5,7 +5,7 @@ ghost use Rattle.std.specs.Option.{option_map};
 ghost use Rattle.btf_relocate_model.specs.Resolution as model;
 ghost use Rattle.btf_relocate_model.specs.Types.{pointer_size};
 ghost use Rattle.btf_relocate.specs.Gives.{GivesBy};
-ghost use Rattle.btf_relocate.specs.Resolving.{subject_view, question_view, answer_at, answer_ids_view, expected_of, HasResolved};
+ghost use Rattle.btf_relocate.specs.Resolving.{subject_view, question_view, answer_at, answer_for, answer_ids_view, expected_of, ResolvesFor};
 
 use crate::access::Access;
 use crate::enumerator::{enumerator_at, find_enumerator};
@@ -56,9 +56,8 @@ pub fn resolve(
     record: &[u32; 4],
     candidates: &mut Vec<u32>,
 ) -> Result<Resolved, RelocationError>
-    ensures { HasResolved candidates.old.items candidates.new.items
-        (model.resolution (record { local = local.now; target = target.now })
-        candidates.old.items «record».now) result }
+    ensures { ResolvesFor local.now target.now «record».now candidates.old.items
+        candidates.new.items result }
 {
     let type_id = record[1];
     let question = question_of(alloc, local, target.table().endianness(), record)?;
@@ -242,8 +241,7 @@ pub fn answers(
     candidates: &[u32],
 ) -> Result<(Option<Answer>, Vec<u32>), RelocationError>
     ensures { GivesBy answer_ids_view
-        (model.answers (answer_at local.now target.now question.now.kind
-        (subject_view question.now.subject)) first candidates.now) result }
+        (model.answers (answer_for local.now target.now question.now) first candidates.now) result }
 {
     let kind = question.kind;
     let mut common = first;

@@ -1,12 +1,11 @@
 //! The records of a section.
 
 ghost use Rattle.std.specs.Prelude.{◌≡◌, IfOk};
-ghost use Rattle.btf_relocate_model.specs.Modules.{relocated_section_among};
 ghost use Rattle.btf_relocate_model.specs.Resolution.{type_word};
 ghost use Rattle.btf_relocate_model.specs.Section.{candidates_of, relocated_section};
 ghost use Rattle.btf_relocate.specs.Modules.{candidates_view, targets_view};
-ghost use Rattle.btf_relocate.specs.Sections.{HasOthers, Relocates, is_shared, setting};
-ghost use Rattle.btf_relocate.specs.SectionsAmong.{RelocatedAmong, left_among};
+ghost use Rattle.btf_relocate.specs.Sections.{HasOthers, RelocatesSection, is_shared, setting};
+ghost use Rattle.btf_relocate.specs.SectionsAmong.{RelocatedAmong, left_among, relocated_among};
 
 use crate::instruction::patch;
 use crate::lookup::{name_or_none, type_at};
@@ -45,9 +44,9 @@ pub fn relocate_section(
     code: &mut [u8],
     policy: CandidatePolicy,
 ) -> Result<Vec<Outcome>, AllocError>
-    ensures records { IfOk result (λ outcomes. Relocates (is_shared policy) local.now target.now
-        (candidates_of local.now target.now) code.old records.now outcomes.items code.new) }
-    ensures defined { IfOk result (λ outcomes. (outcomes.items, code.new)
+    ensures records { IfOk result (λ v. RelocatesSection policy local.now target.now code.old
+        records.now v.items code.new) }
+    ensures defined { IfOk result (λ v. (v.items, code.new)
         ≡ relocated_section (setting local.now target.now) (is_shared policy) code.old records.now) }
 {
     let targets = Targets {
@@ -68,9 +67,8 @@ pub fn relocate_section_among<'a, 't>(
     code: &mut [u8],
     policy: CandidatePolicy,
 ) -> Result<Vec<Outcome>, AllocError>
-    ensures { IfOk result (λ outcomes. (outcomes.items, code.new)
-        ≡ relocated_section_among local.now (targets_view targets.now) (is_shared policy) code.old
-        records.now) }
+    ensures { IfOk result (λ v. (v.items, code.new)
+        ≡ relocated_among policy local.now targets.now code.old records.now) }
 {
     let mut outcomes = Vec::with_capacity(alloc, records.len())?;
     let mut shared: BTreeMap<u32, Candidates<'a, 't>> = BTreeMap::new(alloc);

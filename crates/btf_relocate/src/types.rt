@@ -1,8 +1,8 @@
 //! Comparisons of two types, each in its own table.
 
-ghost use Rattle.std.specs.Prelude.{◌+◌, ◌<◌, OnOk};
+ghost use Rattle.std.specs.Prelude.{OnOk};
 ghost use Rattle.btf_relocate_model.specs.Comparison as model;
-ghost use Rattle.btf_relocate.specs.Comparing.{IsAsked, steps_left, work, AdvancesIn};
+ghost use Rattle.btf_relocate.specs.Comparing.{IsAsked, TakesWork, AdvancesIn};
 ghost use Rattle.btf_relocate.specs.Gives.{Gives};
 ghost use Rattle.btf_relocate.specs.Steps.{comparison};
 
@@ -83,8 +83,8 @@ fn advance(
 ) -> Result<Option<bool>, RelocationError>
     ensures runs { AdvancesIn frame.now answer
         (comparison rule local.now target.now) progress.old progress.new result }
-    ensures fewer { OnOk result (work (comparison rule local.now target.now) progress.new
-        < work (comparison rule local.now target.now) progress.old + steps_left frame.now) }
+    ensures fewer { OnOk result (TakesWork (comparison rule local.now target.now) frame.now
+        progress.old progress.new) }
 {
     match next_step(alloc, rule, local, target, frame, answer)? {
         Next::Ends(is_alike) => {

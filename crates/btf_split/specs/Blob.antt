@@ -20,6 +20,12 @@ HoldsSection blob offset_at endianness =
     model.word_at endianness 4 blob + model.word_at endianness offset_at blob + model.word_at endianness
     (offset_at + 4) blob ≤ length blob
 
+-- the bytes of that section
+abbrev pub held_section : List ℕ → ℕ → Endianness → List ℕ
+held_section blob offset_at endianness =
+    model.slice (model.word_at endianness 4 blob + model.word_at endianness offset_at blob)
+    (model.word_at endianness (offset_at + 4) blob) blob
+
 -- Over any base that the table begins with, the bytes are parsed as the table again, without its fallbacks.
 abbrev pub JoinsAgain : Table → ℕ → ℕ → List ℕ → Type 0
 JoinsAgain table base_types base_strings bytes =

@@ -4,7 +4,7 @@ ghost use Rattle.std.specs.Prelude.{All, ◌≡◌, ◌+◌, ◌<◌, ◌≤◌,
 ghost use Rattle.btf_model.specs.Blob as model;
 ghost use Rattle.btf_model.specs.Blob.{header_of};
 ghost use Rattle.btf_split_model.specs.Hint.{HasSections};
-ghost use Rattle.btf_split.specs.Blob.{written_header, HoldsSection};
+ghost use Rattle.btf_split.specs.Blob.{written_header, HoldsSection, held_section};
 
 use btf_plain::Endianness;
 use std::alloc::AllocError;
@@ -38,9 +38,7 @@ fn section(blob: &[u8], offset_at: usize, endianness: Endianness) -> &[u8]
     requires words { offset_at + 8 ≤ length blob.now }
     requires header { 24 ≤ length blob.now }
     requires fits { HoldsSection blob.now offset_at endianness }
-    ensures { result.now ≡ model.slice
-        (model.word_at endianness 4 blob.now + model.word_at endianness offset_at blob.now)
-        (model.word_at endianness (offset_at + 4) blob.now) blob.now }
+    ensures { result.now ≡ held_section blob.now offset_at endianness }
 {
     let header_len = word_at(blob, 4, endianness) as usize;
     let start = header_len + word_at(blob, offset_at, endianness) as usize;
@@ -52,9 +50,7 @@ fn section(blob: &[u8], offset_at: usize, endianness: Endianness) -> &[u8]
 fn is_within(blob: &[u8], offset_at: usize, endianness: Endianness) -> bool
     requires words { offset_at + 8 ≤ length blob.now }
     requires header { 24 ≤ length blob.now }
-    ensures { IsTrue result ↔ (model.word_at endianness 4 blob.now
-        + model.word_at endianness offset_at blob.now
-        + model.word_at endianness (offset_at + 4) blob.now ≤ length blob.now) }
+    ensures { IsTrue result ↔ HoldsSection blob.now offset_at endianness }
 {
     let header_len = word_at(blob, 4, endianness) as usize;
     let start = header_len + word_at(blob, offset_at, endianness) as usize;

@@ -1,5 +1,5 @@
 -- What a rewrite returns.
-use Rattle.std.specs.Prelude.{◌≡◌, ◌≢◌, ◌≤◌, ◌+◌, ◌⊎◌, ℕ, suc, List, [], length, map, slice_get, Option, Some, None, Result, Ok, Err, String, Unit}
+use Rattle.std.specs.Prelude.{◌≡◌, ◌≢◌, ◌≤◌, ◌+◌, ◌⊎◌, ℕ, suc, List, [], length, map, slice_get, Option, Some, None, Result, Ok, Err, String}
 use Rattle.std.specs.Global.{Vec}
 use Rattle.std.specs.HashMap.{HashMap}
 use Rattle.btf_model.specs.Record as kinds
@@ -72,14 +72,14 @@ RewritesBytes w order bytes answers (Err refusal) =
     ⊎ ((old : Table) × IsTable order bytes old × Refuses w old answers refusal)
 
 -- The rewrite of a table returns its answers, or its refusal, or no memory.
-abbrev pub EndsRewriting : Rewrite → Table → List FeatureAnswer → Table
+abbrev pub ReturnsRewrite : Rewrite → Table → List FeatureAnswer → Table
     → Result (ArrayVec FeatureAnswer 8 (Unit {0})) BtfError → Type 0
-EndsRewriting w old answers new result = MeetsOrNoMemory (λ a. a.items) result (Rewrites w old answers new)
+ReturnsRewrite w old answers new result = MeetsOrNoMemory (λ a. a.items) result (Rewrites w old answers new)
 
 -- The rewrite of the bytes of a table returns the new bytes and its answers, or the refusal, or no memory.
-abbrev pub EndsRewritingBytes : Rewrite → Endianness → List ℕ → List FeatureAnswer
+abbrev pub ReturnsRewrittenBytes : Rewrite → Endianness → List ℕ → List FeatureAnswer
     → Result (Vec ℕ × ArrayVec FeatureAnswer 8 (Unit {0})) BtfError → Type 0
-EndsRewritingBytes w order bytes answers result =
+ReturnsRewrittenBytes w order bytes answers result =
     MeetsOrNoMemory (λ r. (r.0.items, r.1.items)) result (RewritesBytes w order bytes answers)
 
 -- A pass without the step of `.ksyms`: the rewritten table, or why the pass is refused.

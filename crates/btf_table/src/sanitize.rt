@@ -23,7 +23,7 @@ ghost use Rattle.btf_table.specs.Checked.{checked};
 ghost use Rattle.btf_table.specs.Features.{Called};
 ghost use Rattle.btf_table.specs.KsymsStep.{ksyms_ids};
 ghost use Rattle.btf_table.specs.PassStep.{pass_on, given_by, BeginsAsked};
-ghost use Rattle.btf_table.specs.Rewrites.{rewrite_of, pass_for, EndsRewriting, EndsRewritingBytes, Sanitizes, NeedsAreGranted, KeepsTypes, KeepsMeaning, AppendsAtMost, BeginsAskedOf, OfTables};
+ghost use Rattle.btf_table.specs.Rewrites.{rewrite_of, pass_for, ReturnsRewrite, ReturnsRewrittenBytes, Sanitizes, NeedsAreGranted, KeepsTypes, KeepsMeaning, AppendsAtMost, BeginsAskedOf, OfTables};
 
 pub use crate::sanitize::data_sec::known_offset;
 pub use crate::sanitize::features::BtfFeatureResolver;
@@ -132,7 +132,7 @@ impl Btf {
             (rewrite_of KeepSized ksyms sections.now symbols.now) self.old resolver.new.answers) }
         // On success the table is the rewritten one, and all features were asked for; otherwise the first error is
         // returned.
-        ensures rewrites { EndsRewriting (rewrite_of KeepSized ksyms sections.now symbols.now)
+        ensures rewrites { ReturnsRewrite (rewrite_of KeepSized ksyms sections.now symbols.now)
             self.old resolver.new.answers self.new result }
         ensures answers { IfOk result (λ a. a.items ≡ resolver.new.answers) }
         ensures err { OnErr result (self.new ≡ self.old) }
@@ -173,7 +173,7 @@ impl Btf {
             (rewrite_of policy ksyms sections.now symbols.now) self.old resolver.new.answers) }
         // On success the table is the rewritten one, and all features were asked for; otherwise the first error is
         // returned.
-        ensures rewrites { EndsRewriting (rewrite_of policy ksyms sections.now symbols.now)
+        ensures rewrites { ReturnsRewrite (rewrite_of policy ksyms sections.now symbols.now)
             self.old resolver.new.answers self.new result }
         ensures answers { IfOk result (λ a. a.items ≡ resolver.new.answers) }
         ensures err { OnErr result (self.new ≡ self.old) }
@@ -220,7 +220,7 @@ pub fn rewrite_bytes<F: FnMut(BtfFeature) -> bool>(
     ensures callable { F.IsAlwaysCallable resolver.new.predicate }
     ensures called { Called F.step resolver.old.predicate resolver.new.answers
         resolver.new.predicate }
-    ensures rewrites { EndsRewritingBytes (rewrite_of KeepSized ksyms sections.now symbols.now)
+    ensures rewrites { ReturnsRewrittenBytes (rewrite_of KeepSized ksyms sections.now symbols.now)
         endianness «data».now resolver.new.answers result }
     ensures answers { IfOk result (λ r. r.1.items ≡ resolver.new.answers) }
     // In every outcome there are no answers, or the bytes represent a table and the answers are to the first features
@@ -258,7 +258,7 @@ pub fn rewrite_bytes_with<F: FnMut(BtfFeature) -> bool, G: BuildHasher, H: Build
     ensures callable { F.IsAlwaysCallable resolver.new.predicate }
     ensures called { Called F.step resolver.old.predicate resolver.new.answers
         resolver.new.predicate }
-    ensures rewrites { EndsRewritingBytes (rewrite_of policy ksyms sections.now symbols.now)
+    ensures rewrites { ReturnsRewrittenBytes (rewrite_of policy ksyms sections.now symbols.now)
         endianness «data».now resolver.new.answers result }
     ensures answers { IfOk result (λ r. r.1.items ≡ resolver.new.answers) }
     // In every outcome there are no answers, or the bytes represent a table and the answers are to the first features

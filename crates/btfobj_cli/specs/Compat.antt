@@ -78,3 +78,8 @@ pub record AreFindings (local other : Table) (names : List (List ℕ)) (found : 
 -- whether the types of all names are compatible
 abbrev pub are_compatible : List (List ℕ × Finding) → Bool
 are_compatible found = list_all (λ (f : List ℕ × Finding). is_compatible f.1) found
+
+-- whether the findings for all names are that the types are compatible
+abbrev pub AreCompatible : Table → Table → List (List ℕ) → Bool → Type 0
+AreCompatible local other names all =
+    (found : List (List ℕ × Finding)) × AreFindings local other names found × (all ≡ are_compatible found)

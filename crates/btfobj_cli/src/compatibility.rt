@@ -1,7 +1,7 @@
 //! The comparison of the types of a name in two tables.
 
-ghost use Rattle.std.specs.Prelude.{◌≡◌, ℕ, List, map, IfOk};
-ghost use Rattle.btfobj_cli.specs.Compat.{FindsOrNone, FindsFirst, FindsByName, AreFindings, like_kinds, finding_text, is_compatible, are_compatible};
+ghost use Rattle.std.specs.Prelude.{◌≡◌, map, IfOk};
+ghost use Rattle.btfobj_cli.specs.Compat.{FindsOrNone, FindsFirst, FindsByName, AreCompatible, like_kinds, finding_text, is_compatible};
 ghost use Rattle.btfobj_cli.specs.declared.compatibility.Finding.{Finding};
 
 use crate::fault::Fault;
@@ -54,9 +54,7 @@ pub fn compat<W: io::Write>(
     out: &mut W,
 ) -> Result<bool, Fault>
     // The answer is whether the finding for each name is that its types are compatible.
-    ensures { IfOk result (λ all. (found : List (List ℕ × Finding))
-        × AreFindings local.now target.now (map (λ name. name.now) names.now) found
-        × (all ≡ are_compatible found)) }
+    ensures { IfOk result (AreCompatible local.now target.now (map (λ name. name.now) names.now)) }
 {
     let mut text = TextBuffer::new(out);
     let mut all = true;

@@ -51,8 +51,8 @@ impl<'a> InputFile<'a> {
             → IsOkAnd result (IsTableAlone Little bytes.now) }
         ensures big { BeginsTable Big bytes.now → IsOkAnd result (IsTableAlone Big bytes.now) }
         ensures malformed { HasMagic bytes.now → IfErr result (ReportsObject bytes.now) }
-        ensures unknown { (HasMagic bytes.now → ⊥) → (BeginsTable Little bytes.now → ⊥)
-            → (BeginsTable Big bytes.now → ⊥) → result ≡ Err faults.UnknownFormat }
+        ensures unknown { ¬ (HasMagic bytes.now) → ¬ (BeginsTable Little bytes.now)
+            → ¬ (BeginsTable Big bytes.now) → result ≡ Err faults.UnknownFormat }
     {
         match bytes {
             [0x7f, b'E', b'L', b'F', ..] => Ok(InputFile::Object(Object::parse(alloc, bytes)?)),

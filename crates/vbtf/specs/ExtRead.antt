@@ -10,6 +10,7 @@ use Rattle.vbtf.specs.Status.{EndsFilling}
 use Rattle.vbtf.specs.declared.fault.Fault.{Fault}
 use Rattle.vbtf.specs.declared.handle.Handle.{Handle}
 use Rattle.std.specs.Str.{IsUtf8}
+use Rattle.vbtf.specs.declared.opened.Opened.{Opened}
 
 -- texts, each with a zero byte after it
 abbrev pub zero_ended : List (List ℕ) → List ℕ
@@ -58,3 +59,11 @@ abbrev pub EndsRelocations : Handle → List ℕ → List ℕ → List ℕ → �
 EndsRelocations table name old_out new_out needed fault result =
     table.state ≡ 2 → IsUtf8 name → (ext : OpenedExt) → table.opened.ext ≡ Some ext
     → EndsFilling result old_out new_out needed fault (RelocationsOf table.opened.btf.strings ext name)
+
+-- P holds of the `.BTF.ext` that is open with a table, if one is open.
+abbrev pub IfExt : Opened → (OpenedExt → Type 0) → Type 0
+IfExt opened P = (ext : OpenedExt) → opened.ext ≡ Some ext → P ext
+
+-- P holds of the `.BTF.ext` that a handle lends, if it lends one.
+abbrev pub IfLendsExt : Handle → (OpenedExt → Type 0) → Type 0
+IfLendsExt handle P = handle.state ≡ 2 → IfExt handle.opened P

@@ -50,3 +50,7 @@ AnswersIndexed name kind table result =
     MatchOption result ((IsUtf8 name → ⊥) ⊎ (name ≡ []) ⊎ (slice_get kinds kind ≡ None))
     (λ answer. IsUtf8 name × (name ≢ []) × (k : Kind) × (slice_get kinds kind ≡ Some k)
     × MeetsOrNoMemory (λ id. id) answer (FindsIndexed table k name))
+
+-- The name is not UTF-8 or empty, or no kind has this number.
+abbrev pub IsUnaskable : List ℕ → ℕ → Type 0
+IsUnaskable name kind = (IsUtf8 name → ⊥) ⊎ (name ≡ []) ⊎ (slice_get kinds kind ≡ None)

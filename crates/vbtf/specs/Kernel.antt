@@ -17,8 +17,8 @@ use Rattle.vbtf.specs.declared.kernel.Kernel.{Kernel}
 use Rattle.vbtf.specs.declared.kernel.Asked.{Asked}
 use Rattle.vbtf.specs.declared.fault.Fault.{Fault}
 use Rattle.vbtf.specs.declared.handle.Handle.{Handle}
-use Rattle.vbtf.specs.Status.{Fails}
-use Rattle.vbtf.specs.Program.{AreReadableEntries, layout_named}
+use Rattle.vbtf.specs.Status.{Fails, no_memory}
+use Rattle.vbtf.specs.Program.{AreReadableEntries, layout_named, AreReadable}
 use Rattle.vbtf.specs.declared.program.Named.{Named}
 
 -- the policy for DATASECs that have a size and no entries
@@ -60,6 +60,10 @@ abbrev pub rewrite_chosen : Kernel → Layout → Rewrite
 rewrite_chosen kernel layout =
     record { policy = policy_chosen kernel; ksyms = ids_chosen kernel; layout = layout }
 
+-- The outcomes of the rewrite of a table that a C program asks for, for a program of this layout.
+abbrev pub RewritesChosen : Kernel → Layout → Table → Table → Result (List FeatureAnswer) Refusal → Type 0
+RewritesChosen kernel layout old new = RewritesForKernel kernel.features (rewrite_chosen kernel layout) old new
+
 -- The reported features are the first ones that the rewrite of a table asks for, each with whether the kernel has it.
 abbrev pub ReportsAsked : Kernel → Layout → Table → Asked → Type 0
 ReportsAsked kernel layout old asked =
@@ -85,9 +89,16 @@ EndsRewriting status kernel layout old new asked fault =
 
 -- For a table that the handle owns, and names that can be read, the call ends with the table rewritten for the
 -- kernel.
-abbrev pub EndsRewritingNamed : Handle → Handle → List ℕ → List Named → List ℕ → List Named → Kernel → Asked →
+abbrev pub RewritesNamed : Handle → Handle → List ℕ → List Named → List ℕ → List Named → Kernel → Asked →
     Fault → ℕ → Type 0
-EndsRewritingNamed old_table new_table section_names sections symbol_names symbols kernel asked fault result =
+RewritesNamed old_table new_table section_names sections symbol_names symbols kernel asked fault result =
     old_table.state ≡ 1 → AreReadableEntries section_names sections → AreReadableEntries symbol_names symbols
     → EndsRewriting result kernel (layout_named section_names sections symbol_names symbols) old_table
     new_table asked fault
+
+-- For a table that the handle owns, and a name that can't be read, the call ends with status 102, or an allocation
+-- failed before; the handle is unchanged.
+abbrev pub RefusesUnreadable : Handle → Handle → List ℕ → List Named → List ℕ → List Named → ℕ → Type 0
+RefusesUnreadable old_table new_table section_names sections symbol_names symbols result =
+    old_table.state ≡ 1 → ¬ (AreReadable section_names sections symbol_names symbols)
+    → ((result ≡ 102) ⊎ (result ≡ no_memory)) × (new_table ≡ old_table)

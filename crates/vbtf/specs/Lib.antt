@@ -1,5 +1,6 @@
 pub mod Held
 pub mod Status
+pub mod Taken
 pub mod TypeWords
 pub mod Kernel
 pub mod Program

@@ -19,6 +19,7 @@ use Rattle.vbtf.specs.declared.kernel.Kernel.{Kernel}
 use Rattle.btf_elf_model.specs.declared.section_header.SectionHeader.{SectionHeader}
 use Rattle.btf_object_model.specs.Laws.{KeepsExt}
 use Rattle.btf_elf_model.specs.Object as objects
+use Rattle.std.specs.Str.{IsUtf8}
 
 -- a name, or None if it is empty
 abbrev pub text_or_none : List ℕ → Option (List ℕ)
@@ -80,6 +81,11 @@ EndsSanitizing status object target old new needed asked fault =
     ((file : List ℕ) × (answers : List FeatureAnswer) × IsSanitized object target file answers
     × ListsAnswers asked answers × Fills file old new needed status)
     ⊎ ((new ≡ old) × ((e : SanitizeError) × IsSanitizeCause object target e × ReportsCause status fault e))
+
+-- The same for the kernel that a C program names, and for a placeholder that is UTF-8.
+abbrev pub EndsSanitizingFor : Kernel → List ℕ → List ℕ → List ℕ → List ℕ → ℕ → Asked → Fault → ℕ → Type 0
+EndsSanitizingFor kernel placeholder object old new needed asked fault status =
+    IsUtf8 placeholder → EndsSanitizing status object (target_chosen kernel placeholder) old new needed asked fault
 
 -- If the object has a section `.BTF.ext`, the file that fills the buffer is an object that keeps it.
 abbrev pub WritesKeepingExt : List ℕ → List ℕ → List ℕ → ℕ → ℕ → Type 0

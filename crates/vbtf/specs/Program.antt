@@ -5,6 +5,8 @@ use Rattle.std.specs.List.{AllByRecursion}
 use Rattle.std.specs.Option.{option_or}
 use Rattle.btf_rewrite_model.specs.Pass.{Layout}
 use Rattle.vbtf.specs.declared.program.Named.{Named}
+use Rattle.btf_table.specs.Layout.{layout_of}
+use Rattle.vbtf.specs.declared.program.Program.{Program}
 
 -- the name of an entry, in the buffer of names
 abbrev pub name_in : List ℕ → Named → List ℕ
@@ -34,3 +36,7 @@ layout_named section_names sections symbol_names symbols =
 abbrev pub AreReadable : List ℕ → List Named → List ℕ → List Named → Type 0
 AreReadable section_names sections symbol_names symbols =
     AreReadableEntries section_names sections × AreReadableEntries symbol_names symbols
+
+-- the layout of a program
+abbrev pub program_layout : Program → Layout
+program_layout program = layout_of program.sections program.symbols

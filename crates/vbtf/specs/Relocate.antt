@@ -18,6 +18,7 @@ use Rattle.vbtf.specs.Object.{ReportsNumber}
 use Rattle.vbtf.specs.Status.{no_details, Fills, ReportsError, ReportsNoMemory}
 use Rattle.vbtf.specs.declared.fault.Fault.{Fault}
 use Rattle.vbtf.specs.declared.relocate.Tally.{Tally}
+use Rattle.vbtf.specs.declared.handle.Handle.{Handle}
 
 -- Bit 0 of the options is not set: the records of one type share their candidates.
 abbrev pub shares_candidates : ℕ → Bool
@@ -143,3 +144,9 @@ EndsRelocating status object target options old new needed old_tally tally fault
     ⊎ ((new ≡ old) × (tally ≡ old_tally) × ((e : LoaderError)
     × IsLoaderCause (IsReason object target (shares_candidates options) (refuses_records options)) e
     × ReportsReason status fault e))
+
+-- The same for the table that a handle lends, with options that are known.
+abbrev pub EndsRelocatingFor : Handle → List ℕ → ℕ → List ℕ → List ℕ → ℕ → Tally → Tally → Fault → ℕ → Type 0
+EndsRelocatingFor target object options old new needed old_tally tally fault status =
+    target.state ≡ 2 → options ≤ 3
+    → EndsRelocating status object target.opened.btf options old new needed old_tally tally fault

@@ -12,6 +12,7 @@ use Rattle.vbtf.specs.declared.fault.Fault.{Fault}
 use Rattle.vbtf.specs.declared.target.Relocated.{Relocated}
 use Rattle.vbtf.specs.declared.target.Relocation.{Relocation}
 use Rattle.vbtf.specs.declared.handle.Handle.{Handle}
+use Rattle.vbtf.specs.declared.opened.Opened.{Opened}
 
 -- the words of a record
 abbrev pub words_of : Relocation → List ℕ
@@ -54,6 +55,11 @@ EndsResolving status local target relocation old new fault =
     ((r : Resolved) × (status ≡ 0) × (new ≡ relocated_of r) × ResolvesRecord local target relocation (Ok r))
     ⊎ ((e : RelocationError) × (new ≡ old) × ReportsRelocation status fault e
     × ResolvesRecord local target relocation (Err e))
+
+-- The same for a target whose index is open.
+abbrev pub ResolvesIndexed : Table → Opened → Relocation → Relocated → Relocated → Fault → ℕ → Type 0
+ResolvesIndexed local target relocation old new fault status =
+    is_some target.index ≡ true → EndsResolving status local target.btf relocation old new fault
 
 -- For two open tables, where the target has an open index, the call ends with what the record asks to be written.
 abbrev pub EndsRelocatingOne : Handle → Handle → Relocation → Relocated → Relocated → Fault → ℕ → Type 0

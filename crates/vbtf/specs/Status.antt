@@ -183,3 +183,15 @@ FillsWithoutMemory strings offset old_out new_out needed fault result =
 -- the buffer is unchanged.
 abbrev pub FillsOrKeeps : List ℕ → List ℕ → ℕ → ℕ → Type 0
 FillsOrKeeps old new needed status = ((text : List ℕ) × Fills text old new needed status) ⊎ (new ≡ old)
+
+-- P holds of the table that a handle lends, if it lends one.
+abbrev pub IfLends : Handle → (Table → Type 0) → Type 0
+IfLends handle P = handle.state ≡ 2 → P handle.opened.btf
+
+-- No error, and no failed allocation, has this number.
+abbrev pub IsNoError : ℕ → Type 0
+IsNoError number = (number < 1) ⊎ (no_memory < number)
+
+-- P holds of the tables that two handles lend, if both lend one.
+abbrev pub IfBothLend : Handle → Handle → (Table → Table → Type 0) → Type 0
+IfBothLend one other P = one.state ≡ 2 → other.state ≡ 2 → P one.opened.btf other.opened.btf

@@ -4,7 +4,7 @@ ghost use Rattle.std.specs.Prelude.{◌≡◌, ◌≢◌, ◌⊎◌};
 ghost use Rattle.btf_model.specs.Fields.{Fields};
 ghost use Rattle.btf_compare.specs.Compared.{ComparesTypes};
 ghost use Rattle.btf_compare.specs.Pairs.{id_pair};
-ghost use Rattle.vbtf.specs.Status.{EndsOrNoMemory, KeepsHandle};
+ghost use Rattle.vbtf.specs.Status.{EndsOrNoMemory, KeepsHandle, IfBothLend};
 
 use crate::fault::{CLOSED, Fault, report};
 use crate::handle::{Handle, take_loan};
@@ -23,9 +23,8 @@ pub extern "C" fn vbtf_lent_fields_compatible(
     answer: &mut bool,
     fault: &mut Fault,
 ) -> u32
-    ensures compared { local.old.state ≡ 2 → target.old.state ≡ 2
-        → EndsOrNoMemory result answer.new fault.new
-        (Fields local.old.opened.btf local_id target.old.opened.btf target_id) }
+    ensures ends { IfBothLend local.old target.old (λ l t.
+        EndsOrNoMemory result answer.new fault.new (Fields l local_id t target_id)) }
     ensures closed { (local.old.state ≢ 2) ⊎ (target.old.state ≢ 2) → result ≡ CLOSED }
     ensures kept_local { KeepsHandle local.old local.new }
     ensures kept_target { KeepsHandle target.old target.new }
@@ -62,9 +61,8 @@ pub extern "C" fn vbtf_lent_types_compatible(
     answer: &mut bool,
     fault: &mut Fault,
 ) -> u32
-    ensures compared { local.old.state ≡ 2 → target.old.state ≡ 2
-        → EndsOrNoMemory result answer.new fault.new
-        (ComparesTypes local.old.opened.btf target.old.opened.btf (id_pair local_id target_id)) }
+    ensures ends { IfBothLend local.old target.old (λ l t. EndsOrNoMemory result
+        answer.new fault.new (ComparesTypes l t (id_pair local_id target_id))) }
     ensures closed { (local.old.state ≢ 2) ⊎ (target.old.state ≢ 2) → result ≡ CLOSED }
     ensures kept_local { KeepsHandle local.old local.new }
     ensures kept_target { KeepsHandle target.old target.new }

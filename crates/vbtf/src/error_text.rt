@@ -1,7 +1,7 @@
 //! The texts of errors.
 
 ghost use Rattle.std.specs.Prelude.{◌≡◌, ◌≢◌, ◌⊎◌, ◌<◌, ◌≤◌};
-ghost use Rattle.vbtf.specs.Status.{WritesText, no_memory};
+ghost use Rattle.vbtf.specs.Status.{WritesText, no_memory, IsNoError};
 
 use crate::fault::{Fault, INVALID_ARGUMENT, OUT_OF_MEMORY};
 use crate::refused::{RELOCATION_REFUSED, error_at};
@@ -28,8 +28,8 @@ pub extern "C" fn vbtf_raw_error_text(
         → WritesText out.old out.new needed.new result }
     ensures no_relocation { fault.now.number ≡ 107 → (fault.now.id < 1) ⊎ (28 < fault.now.id)
         → (result ≡ INVALID_ARGUMENT) × (out.new ≡ out.old) }
-    ensures no_error { (fault.now.number < 1) ⊎ (no_memory < fault.now.number)
-        → fault.now.number ≢ 107 → (result ≡ INVALID_ARGUMENT) × (out.new ≡ out.old) }
+    ensures no_error { IsNoError fault.now.number → fault.now.number ≢ 107
+        → (result ≡ INVALID_ARGUMENT) × (out.new ≡ out.old) }
 {
     match fault.number {
         1..=OUT_OF_MEMORY => write(text_of(alloc, fault), out, needed),

@@ -7,7 +7,7 @@ ghost use Rattle.std.specs.Str.{IsUtf8};
 ghost use Rattle.btf_ext.specs.BtfExt.{ext as said};
 ghost use Rattle.btf_plain.specs.Error.{MeetsOrNoMemory, IsOrNoMemory};
 ghost use Rattle.vbtf.specs.Ext.{OpenedExt};
-ghost use Rattle.vbtf.specs.ExtRead.{NamesOf, ListsNames, HasSectionName, RecordsOf, RelocationsOf, record_bytes, EndsRecords, EndsRelocations};
+ghost use Rattle.vbtf.specs.ExtRead.{NamesOf, ListsNames, HasSectionName, RecordsOf, RelocationsOf, record_bytes, EndsRecords, EndsRelocations, IfExt, IfLendsExt};
 ghost use Rattle.vbtf.specs.Status.{EndsFilling, KeepsHandle};
 
 use crate::fault::{CLOSED, Fault, INVALID_ARGUMENT, NO_ITEM, report};
@@ -33,10 +33,10 @@ pub extern "C" fn vbtf_lent_ext_names(
     needed: &mut u64,
     fault: &mut Fault,
 ) -> u32
-    ensures names { table.old.state ≡ 2 → (ext : OpenedExt) → table.old.opened.ext ≡ Some ext
-        → part ≤ 1 → EndsFilling result out.old out.new needed.new fault.new (NamesOf ext part) }
-    ensures part { table.old.state ≡ 2 → (ext : OpenedExt) → table.old.opened.ext ≡ Some ext
-        → 1 < part → (result ≡ INVALID_ARGUMENT) × (out.new ≡ out.old) }
+    ensures names { IfLendsExt table.old (λ ext. part ≤ 1
+        → EndsFilling result out.old out.new needed.new fault.new (NamesOf ext part)) }
+    ensures part { IfLendsExt table.old (λ ext. 1 < part
+        → (result ≡ INVALID_ARGUMENT) × (out.new ≡ out.old)) }
     ensures none { table.old.state ≡ 2 → table.old.opened.ext ≡ None
         → (result ≡ CLOSED) × (out.new ≡ out.old) }
     ensures closed { table.old.state ≢ 2 → (result ≡ CLOSED) × (out.new ≡ out.old) }
@@ -57,8 +57,8 @@ pub extern "C" fn vbtf_lent_ext_names(
 /// sections.
 #[unsafe(no_mangle)]
 pub extern "C" fn vbtf_lent_ext_section(table: &mut Handle, index: u32, name: &mut u32) -> u32
-    ensures found { table.old.state ≡ 2 → (ext : OpenedExt) → table.old.opened.ext ≡ Some ext
-        → HasSectionName result name.new (slice_get (said ext).relocations index) }
+    ensures found { IfLendsExt table.old (λ ext. HasSectionName result name.new
+        (slice_get (said ext).relocations index)) }
     ensures none { table.old.state ≡ 2 → table.old.opened.ext ≡ None → result ≡ CLOSED }
     ensures closed { table.old.state ≢ 2 → result ≡ CLOSED }
     ensures kept { KeepsHandle table.old table.new }
@@ -89,9 +89,8 @@ pub extern "C" fn vbtf_lent_ext_records(
 ) -> u32
     ensures records { EndsRecords table.old part name.now out.old out.new needed.new fault.new
         result }
-    ensures part { table.old.state ≡ 2 → IsUtf8 name.now → (ext : OpenedExt)
-        → table.old.opened.ext ≡ Some ext → 1 < part
-        → (result ≡ INVALID_ARGUMENT) × (out.new ≡ out.old) }
+    ensures part { IfLendsExt table.old (λ ext. IsUtf8 name.now → 1 < part
+        → (result ≡ INVALID_ARGUMENT) × (out.new ≡ out.old)) }
     ensures none { table.old.state ≡ 2 → IsUtf8 name.now → table.old.opened.ext ≡ None
         → (result ≡ CLOSED) × (out.new ≡ out.old) }
     ensures closed { table.old.state ≢ 2 → IsUtf8 name.now
@@ -153,10 +152,10 @@ fn write_names(
     needed: &mut u64,
     fault: &mut Fault,
 ) -> u32
-    ensures names { (ext : OpenedExt) → opened.now.ext ≡ Some ext → part ≤ 1
-        → EndsFilling result out.old out.new needed.new fault.new (NamesOf ext part) }
-    ensures part { (ext : OpenedExt) → opened.now.ext ≡ Some ext → 1 < part
-        → (result ≡ INVALID_ARGUMENT) × (out.new ≡ out.old) }
+    ensures names { IfExt opened.now (λ ext. part ≤ 1
+        → EndsFilling result out.old out.new needed.new fault.new (NamesOf ext part)) }
+    ensures part { IfExt opened.now (λ ext. 1 < part
+        → (result ≡ INVALID_ARGUMENT) × (out.new ≡ out.old)) }
     ensures none { opened.now.ext ≡ None → (result ≡ CLOSED) × (out.new ≡ out.old) }
 {
     let Some(ext) = &opened.ext else {
@@ -226,10 +225,10 @@ fn write_records(
     needed: &mut u64,
     fault: &mut Fault,
 ) -> u32
-    ensures records { (ext : OpenedExt) → opened.now.ext ≡ Some ext → part ≤ 1
-        → EndsFilling result out.old out.new needed.new fault.new (RecordsOf ext part name.now) }
-    ensures part { (ext : OpenedExt) → opened.now.ext ≡ Some ext → 1 < part
-        → (result ≡ INVALID_ARGUMENT) × (out.new ≡ out.old) }
+    ensures records { IfExt opened.now (λ ext. part ≤ 1
+        → EndsFilling result out.old out.new needed.new fault.new (RecordsOf ext part name.now)) }
+    ensures part { IfExt opened.now (λ ext. 1 < part
+        → (result ≡ INVALID_ARGUMENT) × (out.new ≡ out.old)) }
     ensures none { opened.now.ext ≡ None → (result ≡ CLOSED) × (out.new ≡ out.old) }
 {
     let Some(ext) = &opened.ext else {
@@ -271,9 +270,8 @@ fn write_relocations(
     needed: &mut u64,
     fault: &mut Fault,
 ) -> u32
-    ensures words { (ext : OpenedExt) → opened.now.ext ≡ Some ext
-        → EndsFilling result out.old out.new needed.new fault.new
-        (RelocationsOf opened.now.btf.strings ext name.now) }
+    ensures words { IfExt opened.now (λ e. EndsFilling result out.old out.new needed.new
+        fault.new (RelocationsOf opened.now.btf.strings e name.now)) }
     ensures none { opened.now.ext ≡ None → (result ≡ CLOSED) × (out.new ≡ out.old) }
 {
     let Some(ext) = &opened.ext else {

@@ -7,6 +7,7 @@ ghost use Rattle.vbtf.specs.declared.opened.Opened.{Opened};
 ghost use Rattle.vbtf.specs.Changed.{ChangedTo};
 ghost use Rattle.vbtf.specs.Held.{held, coded_opened, coded_share};
 ghost use Rattle.vbtf.specs.Lent.{AreNamesFrom};
+ghost use Rattle.vbtf.specs.Taken.{AreLentFrom, IsLoanOf, IsTakenFrom, IsTakenToChange};
 
 use crate::lent_name::Name;
 use crate::loan::Loan;
@@ -113,9 +114,8 @@ impl Handle {
     /// lasts.
     pub(crate) fn names_at(&mut self, offset: u32) -> Name
         requires { self.old.state ≡ 2 }
-        ensures { (self.new ≡ self.old) × (result.life ≡ self.old.life)
-            × AreNamesFrom self.old.opened.btf.strings offset result.bytes
-            × (result.len ≡ length result.bytes) }
+        ensures { (self.new ≡ self.old)
+            × AreLentFrom self.old.opened.btf.strings self.old.life offset result }
     {
         let opened = unsafe { &*(self.at as *mut Opened) };
         let names = names_from(opened, offset);
@@ -131,8 +131,7 @@ unsafe impl Send for Handle {}
 /// Takes the share of a loan out of a handle, and closes the handle. None if it is not in state 2.
 pub(crate) fn take_loan(table: &mut Handle) -> Option<Loan<Opened>>
     ensures { MatchOption result ((table.old.state ≢ 2) × (table.new ≡ table.old))
-        (λ loan. (table.old.state ≡ 2) × (loan.at ≡ table.old.at) × (loan.value ≡ table.old.opened)
-        × (loan.life ≡ table.old.life) × (loan.share ≡ table.old.share)) }
+        (λ loan. IsLoanOf table.old loan.at loan.value loan.life loan.share) }
 {
     if table.read_state() != LENT {
         return None;
@@ -143,7 +142,7 @@ pub(crate) fn take_loan(table: &mut Handle) -> Option<Loan<Opened>>
 /// Takes the table out of a handle, and closes the handle. None if it is not in state 1.
 pub(crate) fn take_table(alloc: Global, table: &mut Handle) -> Option<Box<Opened>>
     ensures { MatchOption result ((table.old.state ≢ 1) × (table.new ≡ table.old))
-        (λ whole. (table.old.state ≡ 1) × (table.new.state ≡ 0) × (whole.value ≡ table.old.opened)) }
+        (λ whole. IsTakenFrom table.old table.new whole.value) }
 {
     if table.read_state() != OWNED {
         return None;
@@ -155,8 +154,7 @@ pub(crate) fn take_table(alloc: Global, table: &mut Handle) -> Option<Box<Opened
 /// 1.
 pub(crate) fn taken_to_change(alloc: Global, table: &mut Handle) -> Option<Box<Opened>>
     ensures { MatchOption result ((table.old.state ≢ 1) × (table.new ≡ table.old))
-        (λ whole. (table.old.state ≡ 1) × (table.new.state ≡ 0)
-        × ChangedTo table.old.opened whole.value table.old.opened.btf) }
+        (λ whole. IsTakenToChange table.old table.new whole.value) }
 {
     let mut whole = take_table(alloc, table)?;
     whole.index = None;

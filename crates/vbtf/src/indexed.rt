@@ -6,7 +6,7 @@ ghost use Rattle.btf_model.specs.Record.{kinds};
 ghost use Rattle.btf_model.specs.Refusal.{UnknownBtfTypeName};
 ghost use Rattle.btf_plain.specs.Error.{MeetsOrNoMemory};
 ghost use Rattle.btf_plain.specs.Kind as plain;
-ghost use Rattle.vbtf.specs.IndexFinding.{FindsIndexPlace, IsNamedAt, EndsFindingIndexed, EndsFindingIn, AnswersIndexed};
+ghost use Rattle.vbtf.specs.IndexFinding.{FindsIndexPlace, IsNamedAt, EndsFindingIndexed, EndsFindingIn, AnswersIndexed, IsUnaskable};
 ghost use Rattle.vbtf.specs.Status.{KeepsHandle};
 
 use crate::fault::{CLOSED, Fault, INVALID_ARGUMENT, report};
@@ -37,8 +37,7 @@ pub extern "C" fn vbtf_lent_index_find(
     ensures found { EndsFindingIndexed table.old name.now kind id.new fault.new result }
     ensures no_index { table.old.state ≡ 2 → table.old.opened.index ≡ None → result ≡ CLOSED }
     ensures refused { table.old.state ≡ 2 → is_some table.old.opened.index ≡ true
-        → (IsUtf8 name.now → ⊥) ⊎ (name.now ≡ []) ⊎ (slice_get kinds kind ≡ None)
-        → result ≡ INVALID_ARGUMENT }
+        → IsUnaskable name.now kind → result ≡ INVALID_ARGUMENT }
     ensures closed { table.old.state ≢ 2 → result ≡ CLOSED }
     ensures kept { KeepsHandle table.old table.new }
 {
@@ -62,8 +61,7 @@ fn find_in(
     ensures found { EndsFindingIn opened.now name.now kind id.new fault.new result }
     ensures no_index { opened.now.index ≡ None → result ≡ CLOSED }
     ensures refused { is_some opened.now.index ≡ true
-        → (IsUtf8 name.now → ⊥) ⊎ (name.now ≡ []) ⊎ (slice_get kinds kind ≡ None)
-        → result ≡ INVALID_ARGUMENT }
+        → IsUnaskable name.now kind → result ≡ INVALID_ARGUMENT }
 {
     let Some(index) = &opened.index else {
         return CLOSED;

@@ -4,7 +4,7 @@ ghost use Rattle.std.specs.Prelude.{◌≡◌, Some, None};
 ghost use Rattle.std.specs.Option.{option_map};
 ghost use Rattle.std.specs.Str.{IsUtf8};
 ghost use Rattle.vbtf.specs.Status.{no_details};
-ghost use Rattle.vbtf.specs.Object.{text_or_none, target_chosen, parse_place, parse_detail, ReportsNumber, ReportsCause, EndsSanitizing, WritesKeepingExt};
+ghost use Rattle.vbtf.specs.Object.{text_or_none, target_chosen, parse_place, parse_detail, ReportsNumber, ReportsCause, EndsSanitizingFor, WritesKeepingExt};
 
 use crate::fault::{Fault, INVALID_ARGUMENT, OUT_OF_MEMORY, report, report_number};
 use crate::kernel::{Asked, Kernel};
@@ -48,8 +48,8 @@ pub extern "C" fn vbtf_raw_sanitize_object(
     asked: &mut Asked,
     fault: &mut Fault,
 ) -> u32
-    ensures sanitized { IsUtf8 placeholder.now → EndsSanitizing result object.now
-        (target_chosen kernel.now placeholder.now) out.old out.new needed.new asked.new fault.new }
+    ensures sanitized { EndsSanitizingFor kernel.now placeholder.now object.now out.old out.new
+        needed.new asked.new fault.new result }
     // With the new table the object's section `.BTF.ext` has the same contents as with the old table.
     ensures ext { IsUtf8 placeholder.now → result ≡ 0 → WritesKeepingExt object.now out.old out.new needed.new result }
     ensures unreadable { (IsUtf8 placeholder.now → ⊥)

@@ -6,6 +6,7 @@ ghost use Rattle.btf_model.specs.Blob.{IsTable, Parses};
 ghost use Rattle.btf_plain.specs.declared.error.BtfError.TheVariants.{OutOfMemory};
 ghost use Rattle.vbtf.specs.Orders.{order_chosen};
 ghost use Rattle.vbtf.specs.Status.{Opens};
+ghost use Rattle.vbtf.specs.Changing.{OpensTable, IsAlone};
 
 use crate::fault::{Fault, INVALID_ARGUMENT, report};
 use crate::handle::{Handle, owner, take_table};
@@ -52,9 +53,7 @@ pub extern "C" fn vbtf_raw_parse(
         → Opens result table.old table.new fault.new
         (Parses (order_chosen order «data».now) «data».now) }
     // An error means that the bytes are no table.
-    ensures only_table { table.old.state ≡ 0 → order ≤ 2
-        → (t : Table) → IsTable (order_chosen order «data».now) «data».now t
-        → Opens result table.old table.new fault.new (λ answer. answer ≡ Ok t) }
+    ensures only_table { OpensTable table.old table.new «data».now order fault.new result }
     ensures open { table.old.state ≢ 0 → (result ≡ INVALID_ARGUMENT) × (table.new ≡ table.old) }
     ensures order { 2 < order → (result ≡ INVALID_ARGUMENT) × (table.new ≡ table.old) }
 {
@@ -89,8 +88,7 @@ pub(crate) fn box_table(
     alloc: Global,
     answer: Result<Btf, BtfError>,
 ) -> Result<Box<Opened>, BtfError>
-    ensures { MatchResult result (λ whole. (answer ≡ Ok whole.value.btf)
-        × (whole.value.ext ≡ None) × (whole.value.index ≡ None))
+    ensures { MatchResult result (λ whole. IsAlone answer whole.value)
         (λ error. (answer ≡ Err error) ⊎ (error ≡ OutOfMemory)) }
 {
     let opened = Opened {

@@ -2,7 +2,7 @@
 
 ghost use Rattle.std.specs.Prelude.{◌≡◌, ℕ, List, IfOk, IfSome, IfNone};
 ghost use Rattle.btf.specs.Layout.{sizes_of, offsets_of, layout_of};
-ghost use Rattle.vbtf.specs.Program.{name_in, number_named, layout_named, IsReadable, AreReadableEntries, AreReadable};
+ghost use Rattle.vbtf.specs.Program.{name_in, number_named, layout_named, IsReadable, AreReadableEntries, AreReadable, program_layout};
 
 use crate::seed::Keys;
 use btf::SectionIndex;
@@ -40,7 +40,7 @@ impl Program {
         symbol_names: &[u8],
         symbols: &[Named],
     ) -> Result<Option<Program>, AllocError>
-        ensures some { IfOk result (λ found. IfSome found (λ p. layout_of p.sections p.symbols
+        ensures some { IfOk result (λ o. IfSome o (λ p. program_layout p
             ≡ layout_named section_names.now sections.now symbol_names.now symbols.now)) }
         ensures readable { IfOk result (λ found. IfSome found
             (λ _. AreReadable section_names.now sections.now symbol_names.now symbols.now)) }

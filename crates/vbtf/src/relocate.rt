@@ -4,7 +4,7 @@ ghost use Rattle.std.specs.Prelude.{◌≡◌, ◌≢◌, ◌<◌, ◌≤◌, �
 ghost use Rattle.btf_loader.specs.Results.{outcomes_of, refuses_errors};
 ghost use Rattle.btf_plain.specs.declared.error.BtfError.TheVariants.{OutOfMemory as NoMemory};
 ghost use Rattle.btf_relocate.specs.Sections.{is_shared};
-ghost use Rattle.vbtf.specs.Relocate.{Outcome as Said, shares_candidates, refuses_records, outcomes_in, all_outcomes, Counts, ReportsReason, EndsRelocating};
+ghost use Rattle.vbtf.specs.Relocate.{Outcome as Said, shares_candidates, refuses_records, outcomes_in, all_outcomes, Counts, ReportsReason, EndsRelocating, EndsRelocatingFor};
 ghost use Rattle.vbtf.specs.Status.{KeepsHandle};
 
 use crate::fault::{CLOSED, Fault, INVALID_ARGUMENT, OUT_OF_MEMORY, report, report_number};
@@ -72,9 +72,8 @@ pub extern "C" fn vbtf_lent_relocate_object(
     tally: &mut Tally,
     fault: &mut Fault,
 ) -> u32
-    ensures relocated { target.old.state ≡ 2 → options ≤ 3
-        → EndsRelocating result object.now target.old.opened.btf options out.old out.new needed.new
-        tally.old tally.new fault.new }
+    ensures relocated { EndsRelocatingFor target.old object.now options out.old out.new needed.new
+        tally.old tally.new fault.new result }
     ensures options { target.old.state ≡ 2 → 3 < options
         → (result ≡ INVALID_ARGUMENT) × (out.new ≡ out.old) × (tally.new ≡ tally.old) }
     ensures closed { target.old.state ≢ 2

@@ -5,8 +5,8 @@ ghost use Rattle.btf.specs.Layout.{layout_of};
 ghost use Rattle.btf_table.specs.Rewrites.{NeedsAreGranted, KeepsMeaning};
 ghost use Rattle.btf_plain.specs.Error.{MeetsOrNoMemory};
 ghost use Rattle.btf_rewrite_model.specs.FeatureSet.{has_bit};
-ghost use Rattle.vbtf.specs.Kernel.{policy_chosen, ids_chosen, rewrite_chosen, ListsAnswers, RewritesForKernel, ReportsAsked, ReportsGranted, EndsRewritingNamed};
-ghost use Rattle.vbtf.specs.Program.{layout_named, AreReadable};
+ghost use Rattle.vbtf.specs.Kernel.{policy_chosen, ids_chosen, rewrite_chosen, ListsAnswers, RewritesChosen, ReportsAsked, ReportsGranted, RewritesNamed, RefusesUnreadable};
+ghost use Rattle.vbtf.specs.Program.{layout_named, program_layout};
 ghost use Rattle.vbtf.specs.Status.{no_memory};
 
 use crate::fault::{CLOSED, Fault, INVALID_ARGUMENT, report};
@@ -40,10 +40,11 @@ pub extern "C" fn vbtf_raw_rewrite(
     asked: &mut Asked,
     fault: &mut Fault,
 ) -> u32
-    ensures rewritten { EndsRewritingNamed table.old table.new section_names.now sections.now
+    ensures ends { RewritesNamed table.old table.new section_names.now sections.now
         symbol_names.now symbols.now kernel.now asked.new fault.new result }
     ensures closed { table.old.state ≢ 1 → (result ≡ CLOSED) × (table.new ≡ table.old) }
-    ensures unreadable { table.old.state ≡ 1 → ¬ (AreReadable section_names.now sections.now symbol_names.now symbols.now) → ((result ≡ INVALID_ARGUMENT) ⊎ (result ≡ no_memory)) × (table.new ≡ table.old) }
+    ensures unreadable { RefusesUnreadable table.old table.new section_names.now sections.now
+        symbol_names.now symbols.now result }
     // Whether the rewrite succeeds or fails, the reported features are the first ones that it asks for, each with
     // whether the kernel has it; there are none if the call fails before the rewrite begins.
     ensures asked { ReportsAsked kernel.now (layout_named section_names.now sections.now
@@ -85,12 +86,10 @@ fn rewrite(
     asked: &mut Asked,
 ) -> Result<ArrayVec<FeatureAnswer, 8>, BtfError>
     ensures rewrites { MeetsOrNoMemory (λ a. a.items) result
-        (RewritesForKernel kernel.now.features (rewrite_chosen kernel.now
-        (layout_of program.now.sections program.now.symbols)) btf.old btf.new) }
+        (RewritesChosen kernel.now (program_layout program.now) btf.old btf.new) }
     ensures err { OnErr result (btf.new ≡ btf.old) }
     ensures listed { IfOk result (λ a. ListsAnswers asked.new a.items) }
-    ensures asked { ReportsAsked kernel.now
-        (layout_of program.now.sections program.now.symbols) btf.old asked.new }
+    ensures asked { ReportsAsked kernel.now (program_layout program.now) btf.old asked.new }
     ensures granted { IfOk result (λ a. NeedsAreGranted (policy_chosen kernel.now)
         (ids_chosen kernel.now) a.items btf.old btf.new) }
     ensures kept { OnOk result (KeepsMeaning btf.old btf.new) }

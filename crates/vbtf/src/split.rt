@@ -3,8 +3,8 @@
 ghost use Rattle.std.specs.Prelude.{◌≡◌, ◌≢◌, ◌<◌, ◌≤◌, length, Ok};
 ghost use Rattle.btf_split_model.specs.Split.{Appends, Joins, cut, split_blob};
 ghost use Rattle.vbtf.specs.Orders.{order_chosen};
-ghost use Rattle.vbtf.specs.Changing.{EndsChanging, EndsOverBase, OpensOverBase, EndsTruncating};
-ghost use Rattle.vbtf.specs.Status.{EndsFilling, KeepsHandle, Opens};
+ghost use Rattle.vbtf.specs.Changing.{EndsChanging, EndsOverBase, OpensOverBase, EndsTruncating, OpensOver, EndsAppending};
+ghost use Rattle.vbtf.specs.Status.{EndsFilling, KeepsHandle, Opens, IfLends};
 
 use crate::fault::{CLOSED, Fault, INVALID_ARGUMENT, report};
 use crate::handle::{Handle, owner, take_loan, taken_to_change};
@@ -30,9 +30,8 @@ pub extern "C" fn vbtf_lent_parse_over(
     order: u32,
     fault: &mut Fault,
 ) -> u32
-    ensures opened { base.old.state ≡ 2 → table.old.state ≡ 0 → order ≤ 2
-        → Opens result table.old table.new fault.new
-        (Joins (order_chosen order «data».now) base.old.opened.btf «data».now) }
+    ensures opened { IfLends base.old (λ b. OpensOver b table.old table.new «data».now order
+        fault.new result) }
     // An error means that the bytes are no table over the base.
     ensures only_table { EndsOverBase base.old table.old table.new «data».now order fault.new
         result }
@@ -60,9 +59,7 @@ fn open_over(
     order: u32,
     fault: &mut Fault,
 ) -> u32
-    ensures opened { table.old.state ≡ 0 → order ≤ 2
-        → Opens result table.old table.new fault.new
-        (Joins (order_chosen order «data».now) base.now «data».now) }
+    ensures opened { OpensOver base.now table.old table.new «data».now order fault.new result }
     ensures only_table { OpensOverBase base.now table.old table.new «data».now order fault.new
         result }
     ensures open { table.old.state ≢ 0 → (result ≡ INVALID_ARGUMENT) × (table.new ≡ table.old) }
@@ -99,8 +96,8 @@ pub extern "C" fn vbtf_lent_split_bytes(
     needed: &mut u64,
     fault: &mut Fault,
 ) -> u32
-    ensures written { table.old.state ≡ 2 → EndsFilling result out.old out.new needed.new fault.new
-        (λ answer. answer ≡ split_blob base_types base_strings table.old.opened.btf) }
+    ensures written { IfLends table.old (λ t. EndsFilling result out.old out.new needed.new
+        fault.new (λ a. a ≡ split_blob base_types base_strings t)) }
     ensures closed { table.old.state ≢ 2 → (result ≡ CLOSED) × (out.new ≡ out.old) }
     ensures kept { KeepsHandle table.old table.new }
 {
@@ -168,9 +165,7 @@ pub extern "C" fn vbtf_raw_append_split(
     order: u32,
     fault: &mut Fault,
 ) -> u32
-    ensures appended { table.old.state ≡ 1 → order ≤ 2
-        → EndsChanging result table.old table.new fault.new
-        (Appends (order_chosen order «data».now) table.old.opened.btf «data».now) }
+    ensures appended { EndsAppending table.old table.new «data».now order fault.new result }
     ensures closed { table.old.state ≢ 1 → order ≤ 2 → (result ≡ CLOSED) × (table.new ≡ table.old) }
     ensures order { 2 < order → (result ≡ INVALID_ARGUMENT) × (table.new ≡ table.old) }
 {

@@ -4,7 +4,7 @@ ghost use Rattle.std.specs.Prelude.{◌≡◌, ◌≢◌, ◌⊎◌, true, false
 ghost use Rattle.btf_plain.specs.declared.error.BtfError.TheVariants.{OutOfMemory};
 ghost use Rattle.vbtf.specs.Changed.{ChangedTo};
 ghost use Rattle.vbtf.specs.Indexed.{Indexes, EndsIndexing};
-ghost use Rattle.vbtf.specs.Resolved.{EndsResolving, ReportsRelocation, ResolvesRecord, relocated_of, EndsRelocatingOne};
+ghost use Rattle.vbtf.specs.Resolved.{EndsResolving, ReportsRelocation, ResolvesRecord, relocated_of, EndsRelocatingOne, ResolvesIndexed};
 ghost use Rattle.vbtf.specs.Status.{KeepsHandle};
 
 use crate::fault::{CLOSED, Fault, INVALID_ARGUMENT, OUT_OF_MEMORY, report, report_number};
@@ -152,9 +152,8 @@ fn relocate_one(
     relocated: &mut Relocated,
     fault: &mut Fault,
 ) -> u32
-    ensures relocated { is_some opened.now.index ≡ true
-        → EndsResolving result local.now opened.now.btf relocation.now relocated.old relocated.new
-        fault.new }
+    ensures relocated { ResolvesIndexed local.now opened.now relocation.now relocated.old
+        relocated.new fault.new result }
     ensures none { opened.now.index ≡ None → (result ≡ CLOSED) × (relocated.new ≡ relocated.old) }
 {
     let Some(index) = &opened.index else {

@@ -4,7 +4,7 @@ ghost use Rattle.std.specs.Prelude.{◌≡◌, ◌≢◌};
 ghost use Rattle.std.specs.Str.{IsUtf8};
 ghost use Rattle.btf_model.specs.Value.{Value};
 ghost use Rattle.btf_above.specs.Variants.{NamesAreUtf8};
-ghost use Rattle.vbtf.specs.Status.{EndsFinding, EndsFindingOrNoMemory, KeepsHandle};
+ghost use Rattle.vbtf.specs.Status.{EndsFinding, EndsFindingOrNoMemory, KeepsHandle, IfLends};
 
 use crate::fault::{CLOSED, Fault, INVALID_ARGUMENT, NO_ITEM, report};
 use crate::handle::{Handle, take_loan};
@@ -27,9 +27,8 @@ pub extern "C" fn vbtf_lent_value(
         → EndsFindingOrNoMemory result value.new fault.new
         (Value table.old.opened.btf id name.now) }
     // Nothing is allocated if the names of the variants are UTF-8.
-    ensures no_memory { table.old.state ≡ 2 → IsUtf8 name.now
-        → NamesAreUtf8 table.old.opened.btf id → EndsFinding result value.new fault.new
-        (Value table.old.opened.btf id name.now) }
+    ensures no_memory { IfLends table.old (λ t. IsUtf8 name.now → NamesAreUtf8 t id
+        → EndsFinding result value.new fault.new (Value t id name.now)) }
     ensures closed { table.old.state ≢ 2 → IsUtf8 name.now → result ≡ CLOSED }
     ensures not_utf8 { (IsUtf8 name.now → ⊥) → result ≡ INVALID_ARGUMENT }
     ensures kept { KeepsHandle table.old table.new }

@@ -3,7 +3,7 @@
 ghost use Rattle.std.specs.Prelude.{◌≡◌, ◌≢◌, Ok};
 ghost use Rattle.btf_model.specs.Blob.{canon};
 ghost use Rattle.btf_model.specs.Text.{text_at};
-ghost use Rattle.vbtf.specs.Status.{Fills, EndsFilling, KeepsHandle, FillsWithoutMemory};
+ghost use Rattle.vbtf.specs.Status.{Fills, EndsFilling, KeepsHandle, FillsWithoutMemory, IfLends};
 
 use crate::fault::{CLOSED, Fault, NO_ROOM, report};
 use crate::handle::{Handle, take_loan};
@@ -21,8 +21,8 @@ pub extern "C" fn vbtf_lent_text(
     needed: &mut u64,
     fault: &mut Fault,
 ) -> u32
-    ensures text { table.old.state ≡ 2 → EndsFilling result out.old out.new needed.new fault.new
-        (λ answer. answer ≡ text_at table.old.opened.btf.strings offset) }
+    ensures text { IfLends table.old (λ t. EndsFilling result out.old out.new needed.new fault.new
+        (λ a. a ≡ text_at t.strings offset)) }
     // Nothing is allocated for a text that is UTF-8.
     ensures no_memory { table.old.state ≡ 2
         → FillsWithoutMemory table.old.opened.btf.strings offset out.old out.new needed.new fault.new result }

@@ -1,10 +1,9 @@
 //! The relocations of a section, by its name.
 
-ghost use Rattle.std.specs.Prelude.{ℕ, List, Result};
-ghost use Rattle.btf_model.specs.Refusal.{Refusal};
 ghost use Rattle.btf_model.specs.RelocationWords.{Words};
-ghost use Rattle.btf_plain.specs.Error.{MeetsOrNoMemory, IsOrNoMemory};
+ghost use Rattle.btf_plain.specs.Error.{MeetsOrNoMemory};
 ghost use Rattle.btf_ext.specs.BtfExt.{ext as said};
+ghost use Rattle.btf_above.specs.Answers.{IsOnly};
 
 use btf_ext::BtfExt;
 use btf_plain::BtfError;
@@ -36,9 +35,8 @@ pub fn relocations_of<H: BuildHasher>(
     ensures words { MeetsOrNoMemory (λ v. v.items) result
         (Words btf.now.strings (said ext.now).relocations name.now) }
     // The result is unique: no other records, and no other error.
-    ensures only { (answer : Result (List (List ℕ)) Refusal)
-        → Words btf.now.strings (said ext.now).relocations name.now answer
-        → IsOrNoMemory (λ v. v.items) result answer }
+    ensures only { IsOnly (λ v. v.items) result
+        (Words btf.now.strings (said ext.now).relocations name.now) }
 {
     let readable_end = comparable_end(btf, name);
     let mut found = Vec::new(alloc);

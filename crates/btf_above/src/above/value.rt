@@ -1,11 +1,10 @@
 //! The value of a variant, by its name.
 
-ghost use Rattle.std.specs.Prelude.{◌<◌, ℕ, length, Option, Result};
-ghost use Rattle.btf_model.specs.Refusal.{Refusal};
-ghost use Rattle.btf_model.specs.Ext.{Then};
-ghost use Rattle.btf_model.specs.Value.{HasVariants, FindsVariant, Value};
-ghost use Rattle.btf_plain.specs.Error.{MeetsOrNoMemory, IsOrNoMemory, Meets};
-ghost use Rattle.btf_above.specs.Variants.{TypeHasUtf8Names, NamesAreUtf8};
+ghost use Rattle.std.specs.Prelude.{◌<◌, length};
+ghost use Rattle.btf_model.specs.Value.{Value};
+ghost use Rattle.btf_plain.specs.Error.{MeetsOrNoMemory, Meets};
+ghost use Rattle.btf_above.specs.Variants.{TypeHasUtf8Names, NamesAreUtf8, FindsValueAt};
+ghost use Rattle.btf_above.specs.Answers.{IsOnly};
 
 use crate::above::variant::find_value;
 use btf_plain::BtfError;
@@ -36,8 +35,7 @@ pub fn variant_value(btf: &Btf, type_id: u32, name: &str) -> Result<Option<u64>,
     // The value, None, or the first error.
     ensures value { MeetsOrNoMemory (λ v. v) result (Value btf.now type_id name.now) }
     // The result is unique: no other value, and no other error.
-    ensures only { (answer : Result (Option ℕ) Refusal) → Value btf.now type_id name.now answer
-        → IsOrNoMemory (λ v. v) result answer }
+    ensures only { IsOnly (λ v. v) result (Value btf.now type_id name.now) }
     // If the names of the type's variants are UTF-8, nothing is allocated.
     ensures no_memory { NamesAreUtf8 btf.now type_id
         → Meets (λ v. v) result (Value btf.now type_id name.now) }
@@ -50,11 +48,9 @@ pub fn variant_value(btf: &Btf, type_id: u32, name: &str) -> Result<Option<u64>,
 /// enumeration, the error is `UnexpectedBtfType` of the id.
 fn value_at(btf: &Btf, type_id: u32, name: &str) -> Result<Option<u64>, BtfError>
     requires { type_id < length btf.now.records }
-    ensures value { MeetsOrNoMemory (λ v. v) result
-        (Then (HasVariants btf.now type_id) (FindsVariant btf.now.strings name.now)) }
+    ensures value { MeetsOrNoMemory (λ v. v) result (FindsValueAt btf.now type_id name.now) }
     ensures no_memory { TypeHasUtf8Names btf.now type_id
-        → Meets (λ v. v) result
-        (Then (HasVariants btf.now type_id) (FindsVariant btf.now.strings name.now)) }
+        → Meets (λ v. v) result (FindsValueAt btf.now type_id name.now) }
 {
     match btf.type_by_id(type_id)? {
         BtfType::Enum(t) => find_value(btf, t.variants(), name),

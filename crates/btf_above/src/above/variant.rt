@@ -3,9 +3,9 @@
 ghost use Rattle.std.specs.Prelude.{◌≡◌, map};
 ghost use Rattle.btf_model.specs.Table as model;
 ghost use Rattle.btf_model.specs.Value.{FindsVariant};
-ghost use Rattle.btf_plain.specs.Error.{MeetsOrNoMemory, Meets};
+ghost use Rattle.btf_plain.specs.Error.{MeetsOrNoMemory};
 ghost use Rattle.btf_plain.specs.Fallback.{fallback_variant};
-ghost use Rattle.btf_above.specs.Variants.{enum_variant, enum64_variant, HaveUtf8Names};
+ghost use Rattle.btf_above.specs.Variants.{enum_variant, enum64_variant, FindsAlways};
 
 use btf_plain::BtfError;
 use btf_records::{BtfEnum, BtfEnum64, Enum64VariantFallback};
@@ -70,9 +70,7 @@ pub fn find_value<V: Variant>(
     ensures found { MeetsOrNoMemory (λ v. v) result
         (FindsVariant btf.now.strings name.now (map V.variant variants.now)) }
     // Only names that are not UTF-8 need an allocation.
-    ensures no_memory { HaveUtf8Names btf.now.strings (map V.variant variants.now)
-        → Meets (λ v. v) result
-        (FindsVariant btf.now.strings name.now (map V.variant variants.now)) }
+    ensures no_memory { FindsAlways btf.now.strings name.now (map V.variant variants.now) result }
 {
     let readable_end = comparable_end(btf, name);
     for variant in variants {

@@ -110,7 +110,8 @@ impl<S: SectionRecords, H: BuildHasher> BySection<S, H> {
     ) -> Result<(), BtfError>
         requires whole { IsSection rec_size (section_of section.now) }
         requires wide { 4 * S.width ≤ rec_size }
-        ensures added { OnOk result (GainsSection btf.now section.now (instruction_records endianness rec_size S.width (section_of section.now)) (by_name S.records self.old) (by_name S.records self.new)) }
+        ensures added { OnOk result (GainsSection btf.now endianness rec_size S.width section.now
+            (by_name S.records self.old) (by_name S.records self.new)) }
         ensures refused { IfErr result (λ e. IfSome (refusal_of e)
             (λ f. text_at btf.now.strings section.now.name_offset ≡ Err f)) }
     {

@@ -6,7 +6,7 @@ ghost use Rattle.btf_rewrite_model.specs.Checks.{in_a_word};
 ghost use Rattle.btf_rewrite_model.specs.Pass.{Layout};
 ghost use Rattle.btf_table.specs.Layout.{sizes_of, offsets_of};
 ghost use Rattle.btf_object_model.specs.Finalized.{is_of_externs, if_positive, known_section_size};
-ghost use Rattle.btf_object.specs.Finalize.{symbol_of, AreNamesCached, layout_in};
+ghost use Rattle.btf_object.specs.Finalize.{symbol_of, AreNamesCached, layout_in, ReadsSize, ReadsSymbol};
 
 use crate::layout::ObjectLayout;
 use btf_plain::{BtfError, SectionIndex};
@@ -56,8 +56,7 @@ fn read_size<G: BuildHasher>(
     sections: &HashMap<String, (SectionIndex, u64), G>,
     name_offset: u32,
 ) -> Result<(Option<u32>, bool), BtfError>
-    ensures made { (layout : Layout) → layout.sections ≡ sizes_of sections.now
-        → IfOk result (λ r. r.0 ≡ known_section_size layout (text_at btf.now.strings name_offset)) }
+    ensures made { ReadsSize (sizes_of sections.now) (text_at btf.now.strings name_offset) result }
     ensures memory { IfErr result (λ e. e ≡ BtfError.OutOfMemory) }
 {
     let name = match btf.string_at(name_offset) {
@@ -79,8 +78,8 @@ fn read_symbol<H: BuildHasher>(
     symbols: &HashMap<String, u64, H>,
     name_offset: u32,
 ) -> Result<(Option<Option<u32>>, bool), BtfError>
-    ensures made { (layout : Layout) → layout.symbols ≡ offsets_of symbols.now
-        → IfOk result (λ r. r.0 ≡ symbol_of layout (text_at btf.now.strings name_offset)) }
+    ensures made { ReadsSymbol (offsets_of symbols.now) (text_at btf.now.strings name_offset)
+        result }
     ensures memory { IfErr result (λ e. e ≡ BtfError.OutOfMemory) }
 {
     match btf.string_at(name_offset) {

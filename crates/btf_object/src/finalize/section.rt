@@ -52,8 +52,8 @@ fn place_entries<H: BuildHasher>(
     data_sec: &DataSec,
 ) -> Result<Option<Vec<DataSecEntry>>, BtfError>
     requires { AreNamesCached btf.now.strings (layout_in layout.now) names.old }
-    ensures made { IfOk result (λ placed_entries.
-        option_map (λ v. map entry_of v.items) placed_entries ≡ entries_at_offsets (layout_in layout.now) btf.now data_sec.now) }
+    ensures made { IfOk result (λ o. option_map (λ v. map entry_of v.items) o
+        ≡ entries_at_offsets (layout_in layout.now) btf.now data_sec.now) }
     ensures count { IfOk result (λ o. IfSome o (λ v. length v.items ≡ vlen data_sec.now.info)) }
     ensures read { OnOk result (AreNamesCached btf.now.strings (layout_in layout.now) names.new) }
     ensures memory { IfErr result (λ e. e ≡ BtfError.OutOfMemory) }

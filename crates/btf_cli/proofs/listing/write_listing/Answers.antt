@@ -4,7 +4,7 @@ use Rattle.std.proofs.lemmas.Result.{on_ok_weaker}
 use Rattle.btf_model.specs.Record.{Record}
 use Rattle.btf_records.specs.BtfType.{record_of}
 use Rattle.text_buffer.specs.Buffer.{Takes}
-use Rattle.btf_cli.specs.Listing.{listing, lines_from}
+use Rattle.btf_cli.specs.Listing.{table_lines, lines_from}
 use Rattle.btf_cli.proofs.Named.{nothing}
 use Rattle.btf_cli.proofs.Taken.{both_ok, flushed, takes_none}
 use Rattle.btf_cli.proofs.listing.write_listing.Goals as goal
@@ -13,7 +13,7 @@ use Rattle.btf_cli.proofs.listing.write_listing.Goals.{in-Some+in_ok-write_lines
 pub returns : goal.returns
 returns g c =
     let held = g.W.Write.contents in
-    let text : List ℕ = listing c.args.table.now in
+    let text : List ℕ = table_lines c.args.table.now in
     let taken : Takes held c.new-lines.result text c.match-split_first.lines =
     elim c.match-split_first.branch [
       | in-Some+in_ok-write_lines w ↦

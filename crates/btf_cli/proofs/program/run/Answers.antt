@@ -3,14 +3,14 @@ use Rattle.btf_cli.proofs.Outcomes.{of_ok, of_err, is_not_2}
 use Rattle.btf_cli.proofs.program.run.Goals as goal
 
 pub returns-in_default-clause-refused : goal.returns-in_default-clause-refused
-returns-in_default-clause-refused g c = λ line bytes f asks is declined. absurd (c.in_default.ensures.none line asks)
+returns-in_default-clause-refused g c = λ line asks bytes f is declined. absurd (c.in_default.ensures.none line asks)
 
 pub returns-clause-usage : goal.returns-clause-usage
 returns-clause-usage g c =
     (λ two. absurd (is_not_2 c.carry_out-outcome.result c.status_of.result c.status_of.ensures.ok c.status_of.ensures.failed two), λ none. absurd (none c.in-Some.line c.in-Some.ensures.some))
 
 pub returns-clause-refused : goal.returns-clause-refused
-returns-clause-refused g c = λ line bytes f asks is declined.
+returns-clause-refused g c = λ line asks bytes f is declined.
     let same = lines_alike c.args.words.now line c.in-Some.line asks c.in-Some.ensures.some in
     let failed = c.carry_out-outcome.ensures.refused bytes f is (declined_alike line c.in-Some.line bytes f same declined) in
     (of_err c.carry_out-outcome.result c.status_of.ensures.failed failed.0, failed.1)

@@ -1,6 +1,6 @@
 use Rattle.std.proofs.Common.{Some, subst, sym, ap, ◌∙◌, [], ◌∷◌, map}
 use Rattle.std.proofs.lemmas.List.{map-append}
-use Rattle.btf_ext.specs.SecInfo.{section_of, GivesSection, AreReadableSections}
+use Rattle.btf_ext.specs.SecInfo.{section_of, GivesSection, ReadsSections}
 use Rattle.btf_ext.proofs.NamedSections.{one_more_met, was_met}
 use Rattle.btf_ext.proofs.Parts.{named_refused, unnamed_refused}
 use Rattle.btf_plain.proofs.Refused.{handed_on}
@@ -10,14 +10,14 @@ use Rattle.btf_ext.proofs.read.readable_sections.Goals.{then-is_new+in_ok-string
 pub returns-in_err-section : goal.returns-in_err-section
 returns-in_err-section c =
     let h = c.loop-section.invariant in
-    handed_on (λ v. map section_of v.items) c.in_err-section.field-0.0 c.from_residual.result (AreReadableSections c.args.endianness c.args.part.now.rec_size c.args.btf.now.strings c.args.part.now.sections.now) c.from_residual.ensures.1
+    handed_on (λ v. map section_of v.items) c.in_err-section.field-0.0 c.from_residual.result (ReadsSections c.args.endianness c.args.part.now.rec_size c.args.btf.now.strings c.args.part.now.sections.now) c.from_residual.ensures.1
     (named_refused c.args.endianness c.args.part.now.rec_size c.args.btf.now.strings c.args.part.now.sections.now h.names c.loop-section.section-iterator c.next.new.self c.in_err-section.field-0.0 h.cut h.have
     (subst (λ r. GivesSection c.loop-section.section-iterator (Some r) c.next.new.self) c.in_err-section.was c.in-Some.ensures.steps))
 
 pub returns-in_err-string_at : goal.returns-in_err-string_at
 returns-in_err-string_at c =
     let h = c.loop-section.invariant in
-    handed_on (λ v. map section_of v.items) c.in_err-string_at.field-0.0 c.from_residual-in_err-string_at.result (AreReadableSections c.args.endianness c.args.part.now.rec_size c.args.btf.now.strings c.args.part.now.sections.now) c.from_residual-in_err-string_at.ensures.1
+    handed_on (λ v. map section_of v.items) c.in_err-string_at.field-0.0 c.from_residual-in_err-string_at.result (ReadsSections c.args.endianness c.args.part.now.rec_size c.args.btf.now.strings c.args.part.now.sections.now) c.from_residual-in_err-string_at.ensures.1
     (unnamed_refused c.args.endianness c.args.part.now.rec_size c.args.btf.now.strings c.args.part.now.sections.now h.names c.loop-section.section-iterator c.next.new.self c.in_ok-section.section c.in_err-string_at.field-0.0 h.cut h.have
     (subst (λ r. GivesSection c.loop-section.section-iterator (Some r) c.next.new.self) c.in_ok-section.was c.in-Some.ensures.steps) c.in_err-string_at.ensures.text)
 

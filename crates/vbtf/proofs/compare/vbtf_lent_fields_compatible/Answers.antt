@@ -6,14 +6,14 @@ use Rattle.vbtf.specs.declared.opened.Opened.{Opened}
 use Rattle.vbtf.proofs.Ending.{ends_refused}
 use Rattle.vbtf.proofs.compare.vbtf_lent_fields_compatible.Goals as goal
 
-pub returns-in-Ok-clause-compared : goal.returns-in-Ok-clause-compared
-returns-in-Ok-clause-compared c one two =
+pub returns-in-Ok-clause-ends : goal.returns-in-Ok-clause-ends
+returns-in-Ok-clause-ends c one two =
     let e : c.get.result.now ≡ c.args.local.now.opened = c.get.ensures ∙ c.in-Some.ensures.2 in
     let f : c.get-2.result.now ≡ c.args.target.now.opened = c.get-2.ensures ∙ c.in-Some-take_loan.ensures.2 in
     inl (inl (refl, subst (λ (p : Opened × Opened). Fields p.0.btf c.args.local_id p.1.btf c.args.target_id (Ok c.in-Ok.yes)) (λ i. (e i, f i)) c.in-Ok.ensures))
 
-pub returns-in-Err-clause-compared : goal.returns-in-Err-clause-compared
-returns-in-Err-clause-compared c one two =
+pub returns-in-Err-clause-ends : goal.returns-in-Err-clause-ends
+returns-in-Err-clause-ends c one two =
     let e : c.get.result.now ≡ c.args.local.now.opened = c.get.ensures ∙ c.in-Some.ensures.2 in
     let f : c.get-2.result.now ≡ c.args.target.now.opened = c.get-2.ensures ∙ c.in-Some-take_loan.ensures.2 in
     let o = refusal_of c.in-Err.error in

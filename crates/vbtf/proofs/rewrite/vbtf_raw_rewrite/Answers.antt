@@ -72,9 +72,9 @@ returns-in-Ok-clause-asked c = reported (goal.at.returns-in-Ok-clause-asked c).A
 pub returns-clause-asked : goal.returns-clause-asked
 returns-clause-asked c = reported (goal.at.returns-clause-asked c).After-owner
 
-pub returns-in-Ok-clause-rewritten : goal.returns-in-Ok-clause-rewritten
-returns-in-Ok-clause-rewritten c = λ owned sections symbols.
-    let w = (goal.at.returns-in-Ok-clause-rewritten c).After-owner in
+pub returns-in-Ok-clause-ends : goal.returns-in-Ok-clause-ends
+returns-in-Ok-clause-ends c = λ owned sections symbols.
+    let w = (goal.at.returns-in-Ok-clause-ends c).After-owner in
     let kernel = c.args.kernel.now in
     let listed : List FeatureAnswer = c.in-Ok.field-0.items in (
       c.owner.ensures.0,
@@ -88,9 +88,9 @@ returns-in-Ok-clause-rewritten c = λ owned sections symbols.
       ),
     )
 
-pub returns-clause-rewritten : goal.returns-clause-rewritten
-returns-clause-rewritten c = λ owned sections symbols.
-    let w = (goal.at.returns-clause-rewritten c).After-owner in
+pub returns-clause-ends : goal.returns-clause-ends
+returns-clause-ends c = λ owned sections symbols.
+    let w = (goal.at.returns-clause-ends c).After-owner in
     let kernel = c.args.kernel.now in
     let ended = refused c.report-in-Err-answer.result c.report-in-Err-answer.new.fault (refusal_of c.in-Err-answer.error)
     (RewritesForKernel kernel.features (rewrite_chosen kernel (layout_of c.in-Ok-Some.program.sections c.in-Ok-Some.program.symbols)) c.deref_mut.result.now.btf c.rewrite-answer.new.btf)
