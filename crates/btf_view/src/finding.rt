@@ -108,10 +108,11 @@ pub(crate) fn find_in(
             continue;
         }
         let offset = kept_name(&raw, number);
-        match has_name(strings, offset, name, end) {
-            None => return Lookup::Unreadable(offset),
-            Some(true) => return Lookup::Found(id as u32),
-            Some(false) => {}
+        let Some(is_named) = has_name(strings, offset, name, end) else {
+            return Lookup::Unreadable(offset);
+        };
+        if is_named {
+            return Lookup::Found(id as u32);
         }
     }
     Lookup::Missing
