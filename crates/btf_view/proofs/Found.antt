@@ -1,5 +1,5 @@
 -- The search for a name in the places of a view.
-use Rattle.std.proofs.Common.{◌≡◌, ◌∙◌, ◌+◌, ◌<◌, ◌≤◌, ℕ, true, false, List, length, get_or, Option, Some, Ok, Err, [], sym, ap, subst, inl, inr, ◌++◌, ◌∷◌, take, refl, ◌≢◌}
+use Rattle.std.proofs.Common.{◌≡◌, ◌∙◌, ◌+◌, ◌<◌, ℕ, true, false, List, length, get_or, Option, Some, Ok, Err, [], sym, ap, subst, inl, inr, ◌++◌, ◌∷◌, take, refl, ◌≢◌}
 use Rattle.std.specs.Prelude.{IfSome, MatchOption, slice_get}
 use Rattle.std.specs.Str.{IsUtf8}
 use Rattle.std.proofs.lemmas.Bool.Decides.{eqb_tells}

@@ -1,4 +1,4 @@
-use Rattle.std.proofs.Common.{◌*◌, length, refl, arith}
+use Rattle.std.proofs.Common.{◌*◌, refl, arith}
 use Rattle.btf_model.specs.Record.{vlen}
 use Rattle.btf_model.specs.Word.{words_at}
 use Rattle.btf_view.specs.Items.{member_forms}

@@ -1,4 +1,4 @@
-use Rattle.std.proofs.Common.{◌≡◌, ◌≢◌, ◌<◌, ◌∙◌, ◌%◌, ◌^◌, ℕ, zero, suc, List, [], ◌∷◌, slice_index_or, bit_and, refl, ap, arith}
+use Rattle.std.proofs.Common.{◌≡◌, ◌≢◌, ◌<◌, ◌∙◌, ℕ, zero, suc, List, [], ◌∷◌, slice_index_or, bit_and, refl, ap, arith}
 use Rattle.std.proofs.lemmas.List.{get_or-replicate}
 use Rattle.std.proofs.lemmas.Nat.{and_mask}
 use Rattle.btf_view.proofs.record.kept_third.Goals as goal

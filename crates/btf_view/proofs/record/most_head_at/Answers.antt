@@ -1,4 +1,4 @@
-use Rattle.std.proofs.Common.{refl, arith}
+use Rattle.std.proofs.Common.{arith}
 use Rattle.btf_plain.specs.declared.head.Head.{Head}
 use Rattle.btf_view.proofs.Heads.{head_there, head_in, retained}
 use Rattle.btf_view.proofs.record.most_head_at.Goals as goal

@@ -1,4 +1,4 @@
-use Rattle.std.proofs.Common.{◌≡◌, ◌∙◌, ◌+◌, Some, None, refl, sym, ap, drop}
+use Rattle.std.proofs.Common.{◌≡◌, ◌∙◌, ◌+◌, None, refl, sym, ap, drop}
 use Rattle.std.proofs.lemmas.Option.{none-some}
 use Rattle.btf_model.specs.Record.{kind_of}
 use Rattle.btf_view.proofs.Tails.{tail_there}

@@ -1,8 +1,7 @@
-use Rattle.std.proofs.Common.{◌≡◌, ◌∙◌, ◌++◌, ℕ, List, length, ap, sym}
+use Rattle.std.proofs.Common.{◌∙◌, ◌++◌, ℕ, List, ap, sym}
 use Rattle.std.proofs.lemmas.Bool.{eqb-true, eqb-false}
 use Rattle.std.proofs.lemmas.List.{append_assoc, append_cancel_left}
 use Rattle.std.specs.Str.Lossy.{replacement_bytes}
-use Rattle.btf_view.specs.Finding.{chunk_text}
 use Rattle.btf_view.proofs.Chunks.{chunk_begins, chunk_cut, chunk_whole}
 use Rattle.btf_view.proofs.text.after_chunk.Goals as goal
 

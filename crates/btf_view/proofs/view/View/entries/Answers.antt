@@ -1,12 +1,8 @@
-use Rattle.std.proofs.Common.{◌≡◌, ◌∙◌, ◌⊎◌, ap, inl, inr, refl, sym, subst, ℕ, Result, Err}
-use Rattle.std.proofs.lemmas.Result.{err_from_is_err_and}
+use Rattle.std.proofs.Common.{ap, refl}
 use Rattle.btf_model.specs.Record as model
 use Rattle.btf_model.specs.Record.{Kind}
 use Rattle.btf_plain.specs.Kind.{kind}
-use Rattle.btf_plain.specs.declared.error.BtfError.{BtfError}
-use Rattle.btf_plain.specs.declared.kind.BtfKind.{BtfKind}
-use Rattle.btf_view.specs.Forms.{ListsItems}
-use Rattle.btf_view.specs.Items.{ItemsOf, entries, entry_forms}
+use Rattle.btf_view.specs.Items.{entries, entry_forms}
 use Rattle.btf_view.proofs.KindNames.{no_entries}
 use Rattle.btf_view.proofs.Listing.{items_listed, unlisted, other_kind}
 use Rattle.btf_view.proofs.view.View.entries.Goals as goal
