@@ -37,7 +37,7 @@ fn write_any(types: &[u8], place: u32, endianness: Endianness, slot: &mut TypeWo
 #[inline(always)]
 fn fill_words(types: &[u8], places: &[u32], endianness: Endianness, out: &mut [TypeWords]) -> usize
     ensures { (rs : List Record) → ArePlaces endianness types.now places.now rs
-        → Begins (take (length out.old) (map words_in rs)) out.old out.new result }
+        → ListsTypes rs 0 out.old out.new result }
 {
     let count = out.len().min(places.len());
     for index in 0..count {

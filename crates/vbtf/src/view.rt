@@ -393,7 +393,7 @@ pub extern "C" fn vbtf_raw_view_members_from(
     written: &mut u64,
 ) -> u32
     ensures status { order ≤ 1 → result ≡ 0 }
-    ensures listed { ForPlaces order types.now places.now (λ rs. ListsMembersFrom
+    ensures lists { ForPlaces order types.now places.now (λ rs. ListsMembersFrom
         rs first counts.old counts.new out.old out.new (done.new, written.new)) }
     ensures order { 1 < order → result ≡ INVALID_ARGUMENT }
     ensures unchanged { 1 < order → (counts.new ≡ counts.old) × (out.new ≡ out.old) }
