@@ -421,6 +421,15 @@ uint32_t vbtf_raw_view_resolve(const uint8_t *types, size_t types_len, const uin
 uint32_t vbtf_raw_view_members(const uint8_t *types, size_t types_len, const uint32_t *places, size_t places_len,
                                uint32_t order, uint32_t id, struct vbtf_member *out, size_t room, uint64_t *count,
                                struct vbtf_error *error);
+uint32_t vbtf_raw_view_variants(const uint8_t *types, size_t types_len, const uint32_t *places, size_t places_len,
+                               uint32_t order, uint32_t id, struct vbtf_variant *out, size_t room, uint64_t *count,
+                               struct vbtf_error *error);
+uint32_t vbtf_raw_view_params(const uint8_t *types, size_t types_len, const uint32_t *places, size_t places_len,
+                               uint32_t order, uint32_t id, struct vbtf_param *out, size_t room, uint64_t *count,
+                               struct vbtf_error *error);
+uint32_t vbtf_raw_view_entries(const uint8_t *types, size_t types_len, const uint32_t *places, size_t places_len,
+                               uint32_t order, uint32_t id, struct vbtf_entry *out, size_t room, uint64_t *count,
+                               struct vbtf_error *error);
 uint32_t vbtf_raw_view_members_from(const uint8_t *types, size_t types_len, const uint32_t *places, size_t places_len,
                                     uint32_t order, uint32_t first, uint32_t *counts, size_t ids,
                                     struct vbtf_member *out, size_t room, uint64_t *done, uint64_t *written);
@@ -1373,13 +1382,43 @@ VBTF_INLINE const char *vbtf_view_name(const struct vbtf_view *view, uint32_t of
 	return offset < view->parts.names_len ? (const char *)view->strings + offset : NULL;
 }
 
-/* What vbtf_members writes. */
+/* What vbtf_members, vbtf_variants, vbtf_params and vbtf_entries write. */
 VBTF_INLINE uint32_t vbtf_view_members(const struct vbtf_view *view, uint32_t id, struct vbtf_member *out, size_t room,
                                        uint64_t *count, struct vbtf_error *error)
 {
 	struct vbtf_error unread;
 	struct vbtf_member none;
 	return vbtf_raw_view_members(vbtf_view_types_at(view), view->parts.types_len, vbtf_view_places(view),
+	                             view->parts.count, view->parts.order, id, out ? out : &none, out ? room : 0, count,
+	                             vbtf_error_or(error, &unread));
+}
+
+VBTF_INLINE uint32_t vbtf_view_variants(const struct vbtf_view *view, uint32_t id, struct vbtf_variant *out,
+                                        size_t room, uint64_t *count, struct vbtf_error *error)
+{
+	struct vbtf_error unread;
+	struct vbtf_variant none;
+	return vbtf_raw_view_variants(vbtf_view_types_at(view), view->parts.types_len, vbtf_view_places(view),
+	                              view->parts.count, view->parts.order, id, out ? out : &none, out ? room : 0, count,
+	                              vbtf_error_or(error, &unread));
+}
+
+VBTF_INLINE uint32_t vbtf_view_params(const struct vbtf_view *view, uint32_t id, struct vbtf_param *out, size_t room,
+                                      uint64_t *count, struct vbtf_error *error)
+{
+	struct vbtf_error unread;
+	struct vbtf_param none;
+	return vbtf_raw_view_params(vbtf_view_types_at(view), view->parts.types_len, vbtf_view_places(view),
+	                            view->parts.count, view->parts.order, id, out ? out : &none, out ? room : 0, count,
+	                            vbtf_error_or(error, &unread));
+}
+
+VBTF_INLINE uint32_t vbtf_view_entries(const struct vbtf_view *view, uint32_t id, struct vbtf_entry *out, size_t room,
+                                       uint64_t *count, struct vbtf_error *error)
+{
+	struct vbtf_error unread;
+	struct vbtf_entry none;
+	return vbtf_raw_view_entries(vbtf_view_types_at(view), view->parts.types_len, vbtf_view_places(view),
 	                             view->parts.count, view->parts.order, id, out ? out : &none, out ? room : 0, count,
 	                             vbtf_error_or(error, &unread));
 }
@@ -1436,10 +1475,7 @@ VBTF_INLINE uint32_t vbtf_view_resolved(const struct vbtf_view *view, uint32_t f
 	                              count);
 }
 
-/*
- * The least id of a type of this kind and name, as vbtf_find gives it; but VBTF_BAD_ARGUMENT also for a name with a
- * zero byte or a byte 0xEF, with which U+FFFD begins.
- */
+/* The least id of a type of this kind and name, as vbtf_find gives it. */
 VBTF_INLINE uint32_t vbtf_view_find(const struct vbtf_view *view, const char *name, size_t len, uint32_t kind,
                                     uint32_t *id, struct vbtf_error *error)
 {

@@ -11,6 +11,7 @@
 #endif
 
 #define ROUNDS 2000
+#define ITEMS (1 << 16) /* more than a type can have */
 
 static struct vbtf_error error;
 
@@ -45,17 +46,60 @@ static void ranges(const struct vbtf_table *table, const struct vbtf_view *view,
 	free(ids);
 }
 
-/* The members of an id, in a buffer with this room. */
-static bool has_members(const struct vbtf_table *table, const struct vbtf_view *view, uint32_t id, size_t room)
+static bool same_member(const struct vbtf_member *one, const struct vbtf_member *other)
 {
-	static struct vbtf_member members[1 << 16], wanted[1 << 16];
-	struct vbtf_error other;
-	uint64_t count = 7, number = 7;
-	memset(members, 1, (room + 1) * sizeof *members);
-	memset(wanted, 1, (room + 1) * sizeof *wanted);
-	uint32_t status = vbtf_view_members(view, id, members, room, &count, &error);
-	return is_same(status, &error, vbtf_members(table, id, wanted, room, &number, &other), &other) && count == number &&
-	       memcmp(members, wanted, (room + 1) * sizeof *members) == 0;
+	return memcmp(one, other, sizeof *one) == 0;
+}
+
+/* By the fields: there are bytes between them. */
+static bool same_variant(const struct vbtf_variant *one, const struct vbtf_variant *other)
+{
+	return one->name_offset == other->name_offset && one->bits == other->bits && one->value == other->value &&
+	       memcmp(&one->is_signed, &other->is_signed, 1) == 0;
+}
+
+static bool same_param(const struct vbtf_param *one, const struct vbtf_param *other)
+{
+	return memcmp(one, other, sizeof *one) == 0;
+}
+
+static bool same_entry(const struct vbtf_entry *one, const struct vbtf_entry *other)
+{
+	return memcmp(one, other, sizeof *one) == 0;
+}
+
+/* The items of an id, in buffers with this room: a call of a view and the call of a table. */
+#define HAS_ITEMS(items, item)                                                                                        \
+	static bool has_##items(const struct vbtf_table *table, const struct vbtf_view *view, uint32_t id, size_t room) \
+	{                                                                                                             \
+		static struct vbtf_##item found[ITEMS + 1], wanted[ITEMS + 1];                                        \
+		struct vbtf_error other;                                                                              \
+		uint64_t count = 7, number = 7;                                                                       \
+		memset(found, 1, (room + 1) * sizeof *found);                                                         \
+		memset(wanted, 1, (room + 1) * sizeof *wanted);                                                       \
+		uint32_t status = vbtf_view_##items(view, id, found, room, &count, &error);                           \
+		bool same = is_same(status, &error, vbtf_##items(table, id, wanted, room, &number, &other), &other);  \
+		for (size_t at = 0; same && at <= room; at++)                                                         \
+			same = same_##item(&found[at], &wanted[at]);                                                  \
+		return same && count == number;                                                                       \
+	}
+
+HAS_ITEMS(members, member)
+HAS_ITEMS(variants, variant)
+HAS_ITEMS(params, param)
+HAS_ITEMS(entries, entry)
+
+/* All items of an id: none of them, up to two of them, and all of them with room for one more. */
+static bool has_items(const struct vbtf_table *table, const struct vbtf_view *view, uint32_t id)
+{
+	struct vbtf_type type = { 0, 0, 0, 0 };
+	vbtf_view_type(view, id, &type, NULL);
+	const size_t rooms[] = { id % 3, (type.info & 0xffff) + 1 };
+	bool same = true;
+	for (size_t i = 0; i < 2; i++)
+		same = same && has_members(table, view, id, rooms[i]) && has_variants(table, view, id, rooms[i]) &&
+		       has_params(table, view, id, rooms[i]) && has_entries(table, view, id, rooms[i]);
+	return same;
 }
 
 /* The members of all types, in buffers with places for these numbers of types and members. */
@@ -97,21 +141,27 @@ static bool has_id(const struct vbtf_table *table, const struct vbtf_view *view,
 	return same && is_same(status, &error, vbtf_resolve(table, id, &target, &other), &other) && to == target;
 }
 
-/* A name that begins at an offset, and the search for it as each kind. */
-static bool has_name(const struct vbtf_table *table, const struct vbtf_view *view, uint32_t offset, bool finds)
+/* The search for a name as each kind. */
+static bool finds(const struct vbtf_table *table, const struct vbtf_view *view, const char *name, size_t len)
+{
+	struct vbtf_error other;
+	bool same = true;
+	for (uint32_t kind = 0; same && kind < 22; kind++) {
+		uint32_t id = 7, wanted = 7, status = vbtf_view_find(view, name, len, kind, &id, &error);
+		same = is_same(status, &error, vbtf_find(table, name, len, kind, &wanted, &other), &other) && id == wanted;
+	}
+	return same;
+}
+
+/* A name that begins at an offset, and the search for it. */
+static bool has_name(const struct vbtf_table *table, const struct vbtf_view *view, uint32_t offset, bool sought)
 {
 	struct vbtf_error other;
 	const char *name = vbtf_view_name(view, offset), *text = NULL;
 	size_t len = 0;
 	uint32_t status = vbtf_name(table, offset, &text, &len, &other);
 	bool same = (name != NULL) == (status == VBTF_OK) && (!name || strcmp(name, text) == 0);
-	bool compares = name && !strchr(name, 0xef);
-	for (uint32_t kind = 0; same && finds && compares && kind < 22; kind++) {
-		uint32_t id = 7, wanted = 7;
-		status = vbtf_view_find(view, name, len, kind, &id, &error);
-		same = is_same(status, &error, vbtf_find(table, name, len, kind, &wanted, &other), &other) && id == wanted;
-	}
-	return same;
+	return same && (!sought || !name || finds(table, view, name, len));
 }
 
 /* All values of a table and of a view of the same bytes. */
@@ -128,16 +178,16 @@ static void equal(const struct vbtf_table *table, const struct vbtf_view *view)
 		for (size_t j = 0; j < sizeof rooms / sizeof *rooms; j++)
 			ranges(table, view, firsts[i], rooms[j]);
 	for (uint32_t id = 0; id <= types; id++)
-		same = same && has_id(table, view, id) && has_members(table, view, id, id % 3) &&
-		       has_members(table, view, id, 65535);
+		same = same && has_id(table, view, id) && has_items(table, view, id);
 	check(same);
 	for (uint32_t offset = 0; offset < view->parts.strings_len + 2; offset += types < 1000 ? 1 : 97)
 		same = same && has_name(table, view, offset, types < 1000 || offset % 10007 == 0);
 	check(same);
 	check(vbtf_view_types(view, 0, NULL, 9, &types) == VBTF_OK && types == 0);
 	check(vbtf_view_find(view, "\xff", 1, 1, &order, &error) == VBTF_BAD_ARGUMENT);
-	check(vbtf_view_find(view, "\xef\xbf\xbd", 3, 1, &order, &error) == VBTF_BAD_ARGUMENT);
-	check(vbtf_view_find(view, "a\0b", 3, 1, &order, &error) == VBTF_BAD_ARGUMENT);
+	/* Names with U+FFFD, which bytes that are not UTF-8 are read as, with its first byte alone, and with a zero byte. */
+	check(finds(table, view, "\xef\xbf\xbd", 3) && finds(table, view, "caf\xef\xbf\xbd", 6));
+	check(finds(table, view, "\xef\xac\x81", 3) && finds(table, view, "int\0", 4) && finds(table, view, "a\0b", 3));
 	check(has_all_members(table, view, 1 << 12, 1 << 16));
 	check(has_all_members(table, view, 7, 1 << 16));
 	check(has_all_members(table, view, 1 << 12, 50));
@@ -184,6 +234,9 @@ static void spoiled_places(void)
 	struct vbtf_view view = VBTF_VIEW_INIT;
 	struct vbtf_type types[16];
 	struct vbtf_member members[16];
+	struct vbtf_variant variants[16];
+	struct vbtf_param params[16];
+	struct vbtf_entry entries[16];
 	uint64_t sizes[16], count;
 	uint32_t ids[16], id;
 	uint8_t *bytes = malloc(TABLE_LEN);
@@ -195,9 +248,14 @@ static void spoiled_places(void)
 		check(vbtf_view_types(&view, 0, types, 16, &count) == VBTF_OK && count == TYPES);
 		check(vbtf_view_sizes(&view, 0, sizes, 16, &count) == VBTF_OK && count == TYPES);
 		check(vbtf_view_resolved(&view, 0, ids, 16, &count) == VBTF_OK && count == TYPES);
-		for (id = 0; id < TYPES + 2; id++)
+		for (id = 0; id < TYPES + 2; id++) {
 			vbtf_view_members(&view, id, members, 16, &count, NULL);
+			vbtf_view_variants(&view, id, variants, 16, &count, NULL);
+			vbtf_view_params(&view, id, params, 16, &count, NULL);
+			vbtf_view_entries(&view, id, entries, 16, &count, NULL);
+		}
 		vbtf_view_find(&view, "run", 3, VBTF_KIND_FUNC, &id, &error);
+		vbtf_view_find(&view, "caf\xef\xbf\xbd", 6, VBTF_KIND_FWD, &id, &error);
 	}
 	vbtf_view_close(&view);
 	free(bytes);
@@ -258,7 +316,32 @@ static void threads(void)
 }
 
 #ifdef WITH_LIBBPF
-/* The words and names of libbpf for the same bytes. */
+/* The variants, parameters and entries of libbpf for the same type. */
+static bool has_their_items(const struct vbtf_view *view, uint32_t id, const struct btf_type *theirs)
+{
+	static struct vbtf_variant variants[1 << 16];
+	static struct vbtf_param params[1 << 16];
+	static struct vbtf_entry entries[1 << 16];
+	uint64_t count = 0;
+	bool same = true;
+	if (vbtf_view_variants(view, id, variants, 1 << 16, &count, &error) == VBTF_OK)
+		for (uint32_t at = 0; at < btf_vlen(theirs); at++)
+			same = same && count == btf_vlen(theirs) &&
+			       variants[at].value == (btf_is_enum64(theirs) ? btf_enum64_value(&btf_enum64(theirs)[at])
+			                                                    : (uint32_t)btf_enum(theirs)[at].val);
+	if (vbtf_view_params(view, id, params, 1 << 16, &count, &error) == VBTF_OK)
+		for (uint32_t at = 0; at < btf_vlen(theirs); at++)
+			same = same && count == btf_vlen(theirs) && params[at].type == btf_params(theirs)[at].type &&
+			       params[at].name_offset == btf_params(theirs)[at].name_off;
+	if (vbtf_view_entries(view, id, entries, 1 << 16, &count, &error) == VBTF_OK)
+		for (uint32_t at = 0; at < btf_vlen(theirs); at++)
+			same = same && count == btf_vlen(theirs) && entries[at].type == btf_var_secinfos(theirs)[at].type &&
+			       entries[at].offset == btf_var_secinfos(theirs)[at].offset &&
+			       entries[at].size == btf_var_secinfos(theirs)[at].size;
+	return same;
+}
+
+/* The words, names and items of libbpf for the same bytes. */
 static void beside_libbpf(const struct vbtf_view *view, const struct file *file)
 {
 	struct btf *theirs = btf__new(file->bytes, file->len);
@@ -268,7 +351,8 @@ static void beside_libbpf(const struct vbtf_view *view, const struct file *file)
 		const struct btf_type *other = btf__type_by_id(theirs, id);
 		same = vbtf_view_type(view, id, &type, &error) == VBTF_OK && type.name_offset == other->name_off &&
 		       type.info == other->info &&
-		       strcmp(vbtf_view_name(view, type.name_offset), btf__name_by_offset(theirs, other->name_off)) == 0;
+		       strcmp(vbtf_view_name(view, type.name_offset), btf__name_by_offset(theirs, other->name_off)) == 0 &&
+		       has_their_items(view, id, other);
 	}
 	check(same);
 	btf__free(theirs);

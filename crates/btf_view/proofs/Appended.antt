@@ -12,7 +12,8 @@ use borrow.Rule.Slice.PartMut.{mid_of, put_mid}
 use Rattle.btf_model.specs.declared.endianness.Endianness.{Endianness}
 use Rattle.btf_model.specs.Record.{Kind, Record, Struct, Union, Var, kind_of, vlen, tail_words}
 use Rattle.btf_model.specs.Word.{words_at}
-use Rattle.btf_view.specs.Forms.{Begins, HasAppended, ListsMembers, members, members_in, members_of}
+use Rattle.btf_view.specs.Forms.{Begins, HasAppended}
+use Rattle.btf_view.specs.Items.{AppendsMembers, ListsMembers, members, member_forms, members_or_none}
 use Rattle.btf_view.proofs.Fills.{Written}
 use Rattle.btf_view.specs.Record.{HasTail}
 use Rattle.btf_view.specs.declared.forms.Member.{Member}
@@ -33,15 +34,15 @@ appended {X} items old new at n le fits h =
     )
 
 -- the members of a record of a kind
-members_by : (r : Record) (k : Kind) → kind_of r.info ≡ Some k → members_of r ≡ unwrap_or (members k r) []
+members_by : (r : Record) (k : Kind) → kind_of r.info ≡ Some k → members_or_none r ≡ unwrap_or (members k r) []
 members_by r k has = ap (λ (kind : Option Kind). unwrap_or (option_and_then (λ k. members k r) kind) []) has
 
 -- a record of a kind without members
-pub no_members_of : (r : Record) (k : Kind) → kind_of r.info ≡ Some k → members k r ≡ None → members_of r ≡ []
+pub no_members_of : (r : Record) (k : Kind) → kind_of r.info ≡ Some k → members k r ≡ None → members_or_none r ≡ []
 no_members_of r k has none = members_by r k has ∙ ap (λ (ms : Option (List Member)). unwrap_or ms []) none
 
 -- nothing is written
-pub none_appended : (r : Record) (old : List Member) (at : ℕ) → members_of r ≡ [] → at ≤ length old → HasAppended (members_of r) old old at (Some 0)
+pub none_appended : (r : Record) (old : List Member) (at : ℕ) → members_or_none r ≡ [] → at ≤ length old → HasAppended (members_or_none r) old old at (Some 0)
 none_appended r old at none le =
     let zero : at ≡ at + 0 = omega arith in (
       ap (λ (ms : List Member). length ms) (sym none),
@@ -52,21 +53,21 @@ none_appended r old at none le =
 -- the members of a STRUCT or UNION, by its words
 members_appended : (order : Endianness) (tail : List ℕ) (info at : ℕ) (result : Option ℕ) (r : Record) (k : Kind) (old new : List Member)
     → kind_of r.info ≡ Some k → info ≡ r.info → HasTail order tail r
-    → k ≢ Var → ((n : ℕ) → tail_words k n ≡ 3 * n) → members k r ≡ Some (members_in r.info r.tail)
-    → (12 * vlen info ≤ length tail → HasAppended (members_in info (words_at order (3 * vlen info) tail)) old new at result)
-    → HasAppended (members_of r) old new at result
+    → k ≢ Var → ((n : ℕ) → tail_words k n ≡ 3 * n) → members k r ≡ Some (member_forms r.info r.tail)
+    → AppendsMembers order info tail old new at result
+    → HasAppended (members_or_none r) old new at result
 members_appended order tail info at result r k old new kind info-is t not-var three lists written =
     let same : t.kind ≡ k = same_Some t.kind k (sym t.has ∙ kind) in
     let len : length r.tail ≡ 3 * vlen info = t.len ∙ ap (λ (j : Kind). tail_words j (vlen r.info)) same ∙ three (vlen r.info) ∙ ap (λ (i : ℕ). 3 * vlen i) (sym info-is) in
     let words : r.tail ≡ words_at order (3 * vlen info) tail = t.words (λ e. not-var (sym same ∙ e)) ∙ ap (λ (n : ℕ). words_at order n tail) len in
-    let items : members_in info (words_at order (3 * vlen info) tail) ≡ members_in r.info r.tail = (λ i. members_in (info-is i) (sym words i)) in
-    let of : members_of r ≡ members_in r.info r.tail = members_by r k kind ∙ ap (λ (ms : Option (List Member)). unwrap_or ms []) lists in
+    let items : member_forms info (words_at order (3 * vlen info) tail) ≡ member_forms r.info r.tail = (λ i. member_forms (info-is i) (sym words i)) in
+    let of : members_or_none r ≡ member_forms r.info r.tail = members_by r k kind ∙ ap (λ (ms : Option (List Member)). unwrap_or ms []) lists in
     subst (λ (ms : List Member). HasAppended ms old new at result) (items ∙ sym of) (written (omega (arith, t.long, len)))
 
 pub struct_appended : (order : Endianness) (tail : List ℕ) (info at : ℕ) (result : Option ℕ) (r : Record) (old new : List Member)
     → (kind_of r.info ≡ Some Struct) ⊎ (kind_of r.info ≡ Some Union) → info ≡ r.info → HasTail order tail r
-    → (12 * vlen info ≤ length tail → HasAppended (members_in info (words_at order (3 * vlen info) tail)) old new at result)
-    → HasAppended (members_of r) old new at result
+    → AppendsMembers order info tail old new at result
+    → HasAppended (members_or_none r) old new at result
 struct_appended order tail info at result r old new (inl kind) info-is t written = members_appended order tail info at result r Struct old new kind info-is t (λ e. cc) (λ n. refl) refl written
 struct_appended order tail info at result r old new (inr kind) info-is t written = members_appended order tail info at result r Union old new kind info-is t (λ e. cc) (λ n. refl) refl written
 
@@ -74,30 +75,30 @@ struct_appended order tail info at result r old new (inr kind) info-is t written
 
 -- the members of the first records are written
 pub record AreAppended (rs : List Record) (old out : List Member) (i written : ℕ) : Type 0 where
-  pub is : out ≡ flat_map members_of (take i rs) ++ drop written old
-  pub count : written ≡ length (flat_map members_of (take i rs))
+  pub is : out ≡ flat_map members_or_none (take i rs) ++ drop written old
+  pub count : written ≡ length (flat_map members_or_none (take i rs))
   pub fits : written ≤ length old
 
 pub nothing_appended : (rs : List Record) (old : List Member) → AreAppended rs old old 0 0
 nothing_appended rs old = record { is = refl; count = refl; fits = omega arith }
 
 -- those of one more record
-pub one_appended : (rs : List Record) (old out new : List Member) (i written n : ℕ) (r : Record) → AreAppended rs old out i written → slice_get rs i ≡ Some r → HasAppended (members_of r) out new written (Some n) → AreAppended rs old new (i + 1) (written + n)
+pub one_appended : (rs : List Record) (old out new : List Member) (i written n : ℕ) (r : Record) → AreAppended rs old out i written → slice_get rs i ≡ Some r → HasAppended (members_or_none r) out new written (Some n) → AreAppended rs old new (i + 1) (written + n)
 one_appended rs old out new i written n r h there more =
-    let F : List Member = flat_map members_of (take i rs) in
+    let F : List Member = flat_map members_or_none (take i rs) in
     let next : take (i + 1) rs ≡ take i rs ++ r ∷ [] = take_more rs i r (slice_get_within rs i r there) ∙ ap (λ y. take i rs ++ y ∷ []) (get_or_from_slice_get rs i r r there) in
-    let all : flat_map members_of (take (i + 1) rs) ≡ F ++ members_of r =
-    ap (λ (xs : List Record). flat_map members_of xs) next ∙ flat_map-append members_of (take i rs) (r ∷ []) ∙ ap (λ (ms : List Member). F ++ ms) (append-nil (members_of r)) in
+    let all : flat_map members_or_none (take (i + 1) rs) ≡ F ++ members_or_none r =
+    ap (λ (xs : List Record). flat_map members_or_none xs) next ∙ flat_map-append members_or_none (take i rs) (r ∷ []) ∙ ap (λ (ms : List Member). F ++ ms) (append-nil (members_or_none r)) in
     let len : length out ≡ length old = ap (λ (ms : List Member). length ms) h.is ∙ length-append F (drop written old) ∙ omega (arith, h.count, h.fits, length-drop written old) in
     let before : take written out ≡ F =
     ap (λ (ms : List Member). take written ms) h.is ∙ ap (λ (m : ℕ). take m (F ++ drop written old)) h.count ∙ take-append_seam F (drop written old) in
     let after : drop (written + n) out ≡ drop (written + n) old =
     ap (λ (ms : List Member). drop (written + n) ms) h.is ∙ ap (λ (m : ℕ). drop (m + n) (F ++ drop written old)) h.count ∙ drop-append-add F (drop written old) n ∙ drop-drop n written old in
     record {
-      is = more.2 ∙ ap (λ (ms : List Member). ms ++ (members_of r ++ drop (written + n) out)) before
-          ∙ ap (λ (ms : List Member). F ++ (members_of r ++ ms)) after
-          ∙ sym (append_assoc F (members_of r) (drop (written + n) old)) ∙ ap (λ (ms : List Member). ms ++ drop (written + n) old) (sym all);
-      count = omega (arith, h.count, more.0, length-append F (members_of r)) ∙ ap (λ (ms : List Member). length ms) (sym all);
+      is = more.2 ∙ ap (λ (ms : List Member). ms ++ (members_or_none r ++ drop (written + n) out)) before
+          ∙ ap (λ (ms : List Member). F ++ (members_or_none r ++ ms)) after
+          ∙ sym (append_assoc F (members_or_none r) (drop (written + n) old)) ∙ ap (λ (ms : List Member). ms ++ drop (written + n) old) (sym all);
+      count = omega (arith, h.count, more.0, length-append F (members_or_none r)) ∙ ap (λ (ms : List Member). length ms) (sym all);
       fits = omega (arith, more.1, len);
     }
 
@@ -109,11 +110,11 @@ counts_begin f rs old new i le h = (
 )
 
 -- the outcome after a number of records
-pub members_listed_to : (rs : List Record) (old_counts counts : List ℕ) (old out : List Member) (i written : ℕ) → i ≤ length rs → Written (map (λ r. length (members_of r)) rs) old_counts counts i → AreAppended rs old out i written
-    → (i ≡ min (length old_counts) (length rs)) ⊎ ((r : Record) × (slice_get rs i ≡ Some r) × (length old < written + length (members_of r)))
+pub members_listed_to : (rs : List Record) (old_counts counts : List ℕ) (old out : List Member) (i written : ℕ) → i ≤ length rs → Written (map (λ r. length (members_or_none r)) rs) old_counts counts i → AreAppended rs old out i written
+    → (i ≡ min (length old_counts) (length rs)) ⊎ ((r : Record) × (slice_get rs i ≡ Some r) × (length old < written + length (members_or_none r)))
     → ListsMembers rs old_counts counts old out i written
 members_listed_to rs old_counts counts old out i written le numbers h stops =
-    record { counts = counts_begin (λ r. length (members_of r)) rs old_counts counts i le numbers; members = (h.count, h.is); stops = stops }
+    record { counts = counts_begin (λ r. length (members_or_none r)) rs old_counts counts i le numbers; members = (h.count, h.is); stops = stops }
 
 -- no record is there
 pub nothing_listed : (counts : List ℕ) (out : List Member) → ListsMembers [] counts counts out out 0 0

@@ -7,7 +7,7 @@ use Rattle.btf_model.specs.Record.{Kind, Array, Var, Record, kind_of, vlen, tail
 use Rattle.btf_model.specs.Word.{word_of, words_at}
 use Rattle.btf_model.specs.Blob.{word_at}
 use Rattle.btf_model.specs.Walk as model
-use Rattle.btf_view.specs.Places.{IsPlace}
+use Rattle.btf_view.specs.Places.{IsRecordAt}
 use Rattle.btf_view.specs.Record.{HasTail}
 use Rattle.btf_view.proofs.Tails.{tail_there}
 
@@ -21,13 +21,13 @@ three_words order rest r t array =
     let len : length r.tail ≡ 3 = t.len ∙ ap (λ (k : Kind). tail_words k (vlen r.info)) kind in
     (omega (arith, t.long, len), t.words (not_var t.kind kind) ∙ ap (λ (n : ℕ). words_at order n rest) len)
 
-pub array_long : (order : Endianness) (types : List ℕ) (place : ℕ) (r : Record) → IsPlace order types place r → kind_of r.info ≡ Some Array → place + 24 ≤ length types
+pub array_long : (order : Endianness) (types : List ℕ) (place : ℕ) (r : Record) → IsRecordAt order types place r → kind_of r.info ≡ Some Array → place + 24 ≤ length types
 array_long order types place r is array =
     let three = three_words order (drop (place + 12) types) r (tail_there order types (drop (place + 12) types) place r refl is) array in
     omega (arith, three.0, length-drop (place + 12) types)
 
 -- the first and the last of them
-pub array_words : (order : Endianness) (types : List ℕ) (place : ℕ) (r : Record) (element count : ℕ) → IsPlace order types place r → kind_of r.info ≡ Some Array → element ≡ word_at order (place + 12) types → count ≡ word_at order (place + 12 + 8) types → model.Times count element ≡ model.array_extent r.tail
+pub array_words : (order : Endianness) (types : List ℕ) (place : ℕ) (r : Record) (element count : ℕ) → IsRecordAt order types place r → kind_of r.info ≡ Some Array → element ≡ word_at order (place + 12) types → count ≡ word_at order (place + 12 + 8) types → model.Times count element ≡ model.array_extent r.tail
 array_words order types place r element count is array element-is count-is =
     let rest = drop (place + 12) types in
     let three = three_words order rest r (tail_there order types rest place r refl is) array in

@@ -1,6 +1,6 @@
 -- The search for a name in the places of a view.
-use Rattle.std.proofs.Common.{◌≡◌, ◌∙◌, ◌+◌, ◌<◌, ◌≤◌, ℕ, true, false, List, length, get_or, Some, Ok, Err, sym, ap, subst, inl, inr, ◌++◌, ◌∷◌, take, refl, ◌≢◌}
-use Rattle.std.specs.Prelude.{slice_get}
+use Rattle.std.proofs.Common.{◌≡◌, ◌∙◌, ◌+◌, ◌<◌, ℕ, true, false, List, length, get_or, Option, Some, Ok, Err, [], sym, ap, subst, inl, inr, ◌++◌, ◌∷◌, take, refl, ◌≢◌}
+use Rattle.std.specs.Prelude.{IfSome, MatchOption, slice_get}
 use Rattle.std.specs.Str.{IsUtf8}
 use Rattle.std.proofs.lemmas.Bool.Decides.{eqb_tells}
 use Rattle.std.proofs.lemmas.Option.{slice_get-get_or}
@@ -14,7 +14,7 @@ use Rattle.btf_plain.specs.declared.head.Head.{Head}
 use Rattle.btf_table.specs.BtfStr.{HasName}
 use Rattle.btf_table.specs.Readable.{IsComparable, IsReadableEnd}
 use Rattle.btf_table.proofs.Names.{begins_otherwise, passed_one}
-use Rattle.btf_view.specs.Places.{AreIndexed, IsPlace}
+use Rattle.btf_view.specs.Places.{AreIndexed, IsRecordAt}
 use Rattle.btf_view.specs.Record.{IsReadAs}
 use Rattle.btf_view.specs.Finding.{LooksUp}
 use Rattle.btf_view.specs.declared.finding.Lookup.TheVariants.{Found, Unreadable}
@@ -27,7 +27,7 @@ pub record Seen (records : List Record) (id : ℕ) (raw : Head) : Type 0 where
   pub there : slice_get records id ≡ Some seen
   pub read : IsReadAs raw seen
 
-pub seen_at : (order : Endianness) (types places : List ℕ) (records : List Record) (id : ℕ) (raw : Head) → AreIndexed order types places records → id < length places → ((r : Record) → IsPlace order types (get_or places id 0) r → IsReadAs raw r) → Seen records id raw
+pub seen_at : (order : Endianness) (types places : List ℕ) (records : List Record) (id : ℕ) (raw : Head) → AreIndexed order types places records → id < length places → ((r : Record) → IsRecordAt order types (get_or places id 0) r → IsReadAs raw r) → Seen records id raw
 seen_at order types places records id raw h lt has =
     let found = placed order types places records id (get_or places id 0) h.are (slice_get-get_or places id 0 lt) in
     record { seen = found.0; there = found.1; read = has found.0 found.2 }
@@ -55,9 +55,9 @@ pub found_there : (strings : List ℕ) (records : List Record) (id : ℕ) (raw :
 found_there strings records id raw offset k name s at kind named below = (s.seen, (below, s.there, kind), subst (λ (o : ℕ). HasName strings o name (Ok true)) at named)
 
 -- a name that can't be read
-pub unread_there : (strings : List ℕ) (records : List Record) (id end : ℕ) (raw : Head) (offset : ℕ) (k : Kind) (name : List ℕ) (s : Seen records id raw) → offset ≡ s.seen.name → kind_of s.seen.info ≡ Some k → IsReadableEnd strings end → end ≤ offset → ArePassed strings records k name id → LooksUp strings records k name (Unreadable offset)
-unread_there strings records id end raw offset k name s at kind readable le below =
-    inl (id, s.seen, (below, s.there, kind), subst (λ (o : ℕ). text_at strings o ≡ Err (InvalidStringOffset offset)) at (readable.from offset le))
+pub unread_there : (strings : List ℕ) (records : List Record) (id : ℕ) (raw : Head) (offset : ℕ) (k : Kind) (name : List ℕ) (s : Seen records id raw) → offset ≡ s.seen.name → kind_of s.seen.info ≡ Some k → text_at strings offset ≡ Err (InvalidStringOffset offset) → ArePassed strings records k name id → LooksUp strings records k name (Unreadable offset)
+unread_there strings records id raw offset k name s at kind unread below =
+    inl (id, s.seen, (below, s.there, kind), subst (λ (o : ℕ). text_at strings o ≡ Err (InvalidStringOffset offset)) at unread)
 
 -- reading retains the name, except for kind 0
 pub name_retained : (raw : Head) (r : Record) → IsReadAs raw r → (kind_number raw.info ≡ 0 → ⊥) → raw.name ≡ r.name
@@ -66,15 +66,15 @@ name_retained raw r h other =
     sym (ap (λ (x : Record). x.name) h.is ∙ kept_name h.kind (headed raw h.tail) named)
 
 -- another kind, or a name that begins with another byte
-pub passed_other : (strings readable : List ℕ) (records : List Record) (id number end first : ℕ) (raw : Head) (k : Kind) (name : List ℕ) (s : Seen records id raw) → slice_get model.kinds number ≡ Some k → (number ≡ 0 → ⊥)
-    → IsReadableEnd strings end → IsUtf8 name → IsComparable name → readable ≡ take end strings → ((rest : List ℕ) → get_or (name ++ 0 ∷ rest) 0 0 ≡ first)
+pub passed_other : (strings readable : List ℕ) (records : List Record) (id number first : ℕ) (end : Option ℕ) (raw : Head) (k : Kind) (name : List ℕ) (s : Seen records id raw) → slice_get model.kinds number ≡ Some k → (number ≡ 0 → ⊥)
+    → IfSome end (λ n. IsReadableEnd strings n × IsComparable name) → MatchOption end (readable ≡ []) (λ n. readable ≡ take n strings) → IsUtf8 name → ((rest : List ℕ) → get_or (name ++ 0 ∷ rest) 0 0 ≡ first)
     → (kind_number raw.info ≡ number → (byte : ℕ) × (slice_get readable raw.name ≡ Some byte) × (byte ≢ first))
     → ArePassed strings records k name id → (low : ℕ) (r : Record) → low < id + 1 → slice_get records low ≡ Some r → IsPassed strings k name r
-passed_other strings readable records id number end first raw k name s is nonzero ends utf8 comparable until firsts differs below =
+passed_other strings readable records id number first end raw k name s is nonzero ends until utf8 firsts differs below =
     elim (eqb_tells (kind_number raw.info) number) [
       | inl same ↦
           let byte = differs same.1 in
           other_name strings records id raw raw.name k name s (name_retained raw s.seen s.read (λ zero. nonzero (sym same.1 ∙ zero)))
-          (begins_otherwise strings name readable raw.name first byte.0 (Some end) (ends, comparable) until utf8 firsts byte.1 byte.2) below
+          (begins_otherwise strings name readable raw.name first byte.0 end ends until utf8 firsts byte.1 byte.2) below
       | inr other ↦ other_kind strings records id number (kind_number raw.info) raw k name s is refl other.1 below
     ]

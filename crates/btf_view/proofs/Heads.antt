@@ -9,17 +9,17 @@ use Rattle.btf_model.specs.Spelling.{kept}
 use Rattle.btf_model.proofs.Reading.{info_at}
 use Rattle.btf_plain.specs.declared.head.Head.{Head}
 use Rattle.btf_plain.specs.Head.{IsHead, headed}
-use Rattle.btf_view.specs.Places.{IsPlace}
+use Rattle.btf_view.specs.Places.{IsRecordAt}
 use Rattle.btf_view.specs.Record.{HasHead, IsReadAs}
 use Rattle.btf_view.proofs.Front.{begins, after_head}
 
 -- a place at which no head fits is past the section
-pub nothing_there : (order : Endianness) (types : List ℕ) (place : ℕ) (r : Record) → length (drop place types) < 12 → IsPlace order types place r → r ≡ unknown
+pub nothing_there : (order : Endianness) (types : List ℕ) (place : ℕ) (r : Record) → length (drop place types) < 12 → IsRecordAt order types place r → r ≡ unknown
 nothing_there order types place r lt (inl read) = absurd (omega (arith, (begins order (drop place types) r read).long, lt))
 nothing_there order types place r lt (inr past) = past.1
 
 -- the head at a place is that of the record there
-pub head_there : (order : Endianness) (types : List ℕ) (place : ℕ) (r : Record) (head : Head) (rest : List ℕ) → IsHead order (drop place types) head rest → IsPlace order types place r → IsReadAs head r
+pub head_there : (order : Endianness) (types : List ℕ) (place : ℕ) (r : Record) (head : Head) (rest : List ℕ) → IsHead order (drop place types) head rest → IsRecordAt order types place r → IsReadAs head r
 head_there order types place r head rest h (inl read) =
     let b = begins order (drop place types) r read in
     let n = tail_words b.kind (vlen (info_at order (drop place types))) in

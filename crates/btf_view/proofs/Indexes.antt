@@ -10,9 +10,9 @@ use Rattle.btf_model.specs.Blob.{header_len, header_of, slice, strings_end, type
 use Rattle.btf_plain.specs.declared.error.BtfError.{BtfError}
 use Rattle.btf_plain.specs.declared.error.BtfError.TheVariants.{InvalidHeader, InvalidTypeInfo}
 use Rattle.btf_view.proofs.Places.{as_many_places}
-use Rattle.btf_view.specs.Header.{model_header}
+use Rattle.btf_view.specs.Header.{blob_header}
 use Rattle.btf_view.specs.Places.{ArePlaces}
-use Rattle.btf_view.specs.Index.{FillsPlaces, Indexes, IsIndexed}
+use Rattle.btf_view.specs.Index.{FillsPlaces, IndexesBlob, IsIndexed}
 use Rattle.btf_view.specs.declared.header.Header.{Header}
 use Rattle.btf_view.specs.declared.indexing.Unindexed.{Unindexed}
 use Rattle.btf_view.specs.declared.indexing.Unindexed.TheVariants.{Refused, TooFewPlaces}
@@ -20,12 +20,12 @@ use Rattle.btf_view.specs.declared.indexing.Unindexed.TheVariants.{Refused, TooF
 -- the first 24 bytes are this header
 pub record HasHeader (order : Endianness) (bytes : List ℕ) (h : Header) : Type 0 where
   pub long : header_len ≤ length bytes
-  pub is : model_header h ≡ header_of order bytes
+  pub is : blob_header h ≡ header_of order bytes
 
 -- a truncated header
-pub no_header : (order : Endianness) (bytes places : List ℕ) (e : BtfError) → length bytes < header_len → e ≡ InvalidHeader → Indexes order bytes places (Err (Refused e))
+pub no_header : (order : Endianness) (bytes places : List ℕ) (e : BtfError) → length bytes < header_len → e ≡ InvalidHeader → IndexesBlob order bytes places (Err (Refused e))
 no_header order bytes places e lt is =
-    subst (λ (x : BtfError). Indexes order bytes places (Err (Refused x))) (sym is) (
+    subst (λ (x : BtfError). IndexesBlob order bytes places (Err (Refused x))) (sym is) (
       refusals.InvalidHeader,
       refl,
       record {
@@ -37,7 +37,7 @@ no_header order bytes places e lt is =
     )
 
 -- a string section that does not fit
-pub no_strings : (order : Endianness) (bytes places : List ℕ) (h : Header) → HasHeader order bytes h → length bytes < h.hdr_len + h.str_off + h.str_len → Indexes order bytes places (Err (Refused InvalidHeader))
+pub no_strings : (order : Endianness) (bytes places : List ℕ) (h : Header) → HasHeader order bytes h → length bytes < h.hdr_len + h.str_off + h.str_len → IndexesBlob order bytes places (Err (Refused InvalidHeader))
 no_strings order bytes places h has lt =
     let past : length bytes < strings_end (header_of order bytes) = subst (λ (x : blob.Header). length bytes < strings_end x) has.is lt in (
       refusals.InvalidHeader,
@@ -51,7 +51,7 @@ no_strings order bytes places h has lt =
     )
 
 -- a type section that does not fit
-pub no_types : (order : Endianness) (bytes places : List ℕ) (h : Header) → HasHeader order bytes h → h.hdr_len + h.str_off + h.str_len ≤ length bytes → length bytes < h.hdr_len + h.type_off + h.type_len → Indexes order bytes places (Err (Refused InvalidTypeInfo))
+pub no_types : (order : Endianness) (bytes places : List ℕ) (h : Header) → HasHeader order bytes h → h.hdr_len + h.str_off + h.str_len ≤ length bytes → length bytes < h.hdr_len + h.type_off + h.type_len → IndexesBlob order bytes places (Err (Refused InvalidTypeInfo))
 no_types order bytes places h has fits lt =
     let within : strings_end (header_of order bytes) ≤ length bytes = subst (λ (x : blob.Header). strings_end x ≤ length bytes) has.is fits in
     let past : length bytes < types_end (header_of order bytes) = subst (λ (x : blob.Header). length bytes < types_end x) has.is lt in (
@@ -66,7 +66,7 @@ no_types order bytes places h has fits lt =
     )
 
 -- the places of the records, or why there are none
-pub no_places : (order : Endianness) (bytes types places : List ℕ) (h : Header) (why : Unindexed) → HasHeader order bytes h → h.hdr_len + h.str_off + h.str_len ≤ length bytes → h.hdr_len + h.type_off + h.type_len ≤ length bytes → types ≡ slice (h.hdr_len + h.type_off) h.type_len bytes → FillsPlaces order types places (Err why) → Indexes order bytes places (Err why)
+pub no_places : (order : Endianness) (bytes types places : List ℕ) (h : Header) (why : Unindexed) → HasHeader order bytes h → h.hdr_len + h.str_off + h.str_len ≤ length bytes → h.hdr_len + h.type_off + h.type_len ≤ length bytes → types ≡ slice (h.hdr_len + h.type_off) h.type_len bytes → FillsPlaces order types places (Err why) → IndexesBlob order bytes places (Err why)
 no_places order bytes types places h (Refused e) has strings fits is filled =
     let within : strings_end (header_of order bytes) ≤ length bytes = subst (λ (x : blob.Header). strings_end x ≤ length bytes) has.is strings in
     let whole : types_end (header_of order bytes) ≤ length bytes = subst (λ (x : blob.Header). types_end x ≤ length bytes) has.is fits in

@@ -12,7 +12,7 @@ use Rattle.btf_plain.specs.declared.kind.BtfKind.TheVariants as code
 use Rattle.btf_model.specs.Walk.{extent, modified}
 use Rattle.btf_plain.specs.Head.{headed}
 use Rattle.btf_plain.specs.declared.head.Head.{Head}
-use Rattle.btf_view.specs.Forms.{members}
+use Rattle.btf_view.specs.Items.{entries, members, params, variants}
 use Rattle.btf_view.specs.Record.{HasHead}
 
 abbrev number_of : Kind → ℕ
@@ -179,31 +179,21 @@ head_kept model.DeclTag head tail third u d s = record { name = refl; info = ref
 head_kept model.TypeTag head tail third u d s = record { name = refl; info = refl; third = s (λ e. cc) (λ e. cc) }
 head_kept model.Enum64 head tail third u d s = record { name = refl; info = refl; third = s (λ e. cc) (λ e. cc) }
 
--- the kinds without members
+-- the kinds without members, variants, parameters or entries
 pub no_members : (k : BtfKind) (r : Record) → k ≢ code.Struct → k ≢ code.Union → members (kind k) r ≡ None
 no_members code.Struct r s u = absurd (s refl)
 no_members code.Union r s u = absurd (u refl)
 no_members k r s u = refl
 
--- the kinds of which reading retains the whole head
-pub whole_head : (k : Kind) (head : Head) (tail : List ℕ) → k ≢ model.Unknown → k ≢ model.Array → k ≢ model.Fwd → HasHead head (kept k (headed head tail))
-whole_head model.Unknown head tail u a f = absurd (u refl)
-whole_head model.Array head tail u a f = absurd (a refl)
-whole_head model.Fwd head tail u a f = absurd (f refl)
-whole_head model.Int head tail u a f = record { name = refl; info = refl; third = refl }
-whole_head model.Ptr head tail u a f = record { name = refl; info = refl; third = refl }
-whole_head model.Struct head tail u a f = record { name = refl; info = refl; third = refl }
-whole_head model.Union head tail u a f = record { name = refl; info = refl; third = refl }
-whole_head model.Enum head tail u a f = record { name = refl; info = refl; third = refl }
-whole_head model.Typedef head tail u a f = record { name = refl; info = refl; third = refl }
-whole_head model.Volatile head tail u a f = record { name = refl; info = refl; third = refl }
-whole_head model.Const head tail u a f = record { name = refl; info = refl; third = refl }
-whole_head model.Restrict head tail u a f = record { name = refl; info = refl; third = refl }
-whole_head model.Func head tail u a f = record { name = refl; info = refl; third = refl }
-whole_head model.FuncProto head tail u a f = record { name = refl; info = refl; third = refl }
-whole_head model.Var head tail u a f = record { name = refl; info = refl; third = refl }
-whole_head model.DataSec head tail u a f = record { name = refl; info = refl; third = refl }
-whole_head model.Float head tail u a f = record { name = refl; info = refl; third = refl }
-whole_head model.DeclTag head tail u a f = record { name = refl; info = refl; third = refl }
-whole_head model.TypeTag head tail u a f = record { name = refl; info = refl; third = refl }
-whole_head model.Enum64 head tail u a f = record { name = refl; info = refl; third = refl }
+pub no_variants : (k : BtfKind) (r : Record) → k ≢ code.Enum → k ≢ code.Enum64 → variants (kind k) r ≡ None
+no_variants code.Enum r s u = absurd (s refl)
+no_variants code.Enum64 r s u = absurd (u refl)
+no_variants k r s u = refl
+
+pub no_params : (k : BtfKind) (r : Record) → k ≢ code.FuncProto → params (kind k) r ≡ None
+no_params code.FuncProto r s = absurd (s refl)
+no_params k r s = refl
+
+pub no_entries : (k : BtfKind) (r : Record) → k ≢ code.DataSec → entries (kind k) r ≡ None
+no_entries code.DataSec r s = absurd (s refl)
+no_entries k r s = refl

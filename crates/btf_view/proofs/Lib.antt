@@ -1,4 +1,5 @@
 pub mod Appended
+pub mod Chunks
 pub mod Front
 pub mod Places
 pub mod Heads
@@ -11,5 +12,5 @@ pub mod Walking
 pub mod Filled
 pub mod Fills
 pub mod KindNames
-pub mod Listed
+pub mod Listing
 pub mod Found

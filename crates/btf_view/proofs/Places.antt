@@ -3,7 +3,7 @@ use Rattle.std.proofs.Common.{◌≡◌, ℕ, zero, suc, List, [], ◌∷◌, �
 use Rattle.std.proofs.lemmas.Option.{same_Some, slice_get_within}
 use Rattle.btf_model.specs.declared.endianness.Endianness.{Endianness}
 use Rattle.btf_model.specs.Record.{Record}
-use Rattle.btf_view.specs.Places.{IsPlace, ArePlaces}
+use Rattle.btf_view.specs.Places.{IsRecordAt, ArePlaces}
 
 -- one place for each record
 pub as_many_places : (order : Endianness) (types places : List ℕ) (rs : List Record) → ArePlaces order types places rs → length places ≡ length rs
@@ -13,16 +13,16 @@ as_many_places order types [] (r ∷ rs) h = absurd h
 as_many_places order types (p ∷ ps) [] h = absurd h
 
 -- one more
-pub one_more_place : (order : Endianness) (types places : List ℕ) (rs : List Record) (p : ℕ) (r : Record) → ArePlaces order types places rs → IsPlace order types p r → ArePlaces order types (places ++ p ∷ []) (rs ++ r ∷ [])
+pub one_more_place : (order : Endianness) (types places : List ℕ) (rs : List Record) (p : ℕ) (r : Record) → ArePlaces order types places rs → IsRecordAt order types p r → ArePlaces order types (places ++ p ∷ []) (rs ++ r ∷ [])
 one_more_place order types [] [] p r h is = (is, tt)
 one_more_place order types (q ∷ ps) (s ∷ rs) p r h is = (h.0, one_more_place order types ps rs p r h.1 is)
 one_more_place order types [] (s ∷ rs) p r h is = absurd h
 one_more_place order types (q ∷ ps) [] p r h is = absurd h
 
 -- the record at a place
-pub placed : (order : Endianness) (types places : List ℕ) (rs : List Record) (id p : ℕ) → ArePlaces order types places rs → slice_get places id ≡ Some p → (r : Record) × (slice_get rs id ≡ Some r) × IsPlace order types p r
+pub placed : (order : Endianness) (types places : List ℕ) (rs : List Record) (id p : ℕ) → ArePlaces order types places rs → slice_get places id ≡ Some p → (r : Record) × (slice_get rs id ≡ Some r) × IsRecordAt order types p r
 placed order types [] [] id p h is = absurd (omega (arith, slice_get_within [] id p is))
-placed order types (q ∷ ps) (r ∷ rs) zero p h is = (r, refl, subst (λ (x : ℕ). IsPlace order types x r) (same_Some q p is) h.0)
+placed order types (q ∷ ps) (r ∷ rs) zero p h is = (r, refl, subst (λ (x : ℕ). IsRecordAt order types x r) (same_Some q p is) h.0)
 placed order types (q ∷ ps) (r ∷ rs) (suc id) p h is = placed order types ps rs id p h.1 is
 placed order types [] (r ∷ rs) id p h is = absurd h
 placed order types (q ∷ ps) [] id p h is = absurd h

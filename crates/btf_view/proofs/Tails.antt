@@ -7,7 +7,7 @@ use Rattle.btf_model.specs.Word.{words_at}
 use Rattle.btf_model.specs.Spelling.{kept}
 use Rattle.btf_model.proofs.Words.{length-words_at}
 use Rattle.btf_model.proofs.Reading.{record_at, info_at}
-use Rattle.btf_view.specs.Places.{IsPlace}
+use Rattle.btf_view.specs.Places.{IsRecordAt}
 use Rattle.btf_view.specs.Record.{HasTail}
 use Rattle.btf_view.proofs.Front.{begins}
 
@@ -39,7 +39,7 @@ kept_tail order bytes TypeTag w has len long words = record { kind = TypeTag; ha
 kept_tail order bytes Enum64 w has len long words = record { kind = Enum64; has = has; len = len; long = long; words = λ _. words }
 
 -- the bytes after the head at a place
-pub tail_there : (order : Endianness) (types rest : List ℕ) (place : ℕ) (r : Record) → rest ≡ drop (place + 12) types → IsPlace order types place r → HasTail order rest r
+pub tail_there : (order : Endianness) (types rest : List ℕ) (place : ℕ) (r : Record) → rest ≡ drop (place + 12) types → IsRecordAt order types place r → HasTail order rest r
 tail_there order types rest place r is (inl read) =
     let bytes = drop place types in
     let b = begins order bytes r read in

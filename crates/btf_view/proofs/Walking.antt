@@ -10,11 +10,11 @@ use Rattle.btf_model.specs.Walk.{Finding, Ends, GoesOn, Leads, By, walk_limit, E
 use Rattle.btf_plain.specs.Error.{Meets, refusal_of}
 use Rattle.btf_plain.specs.declared.error.BtfError.{BtfError}
 use Rattle.btf_plain.specs.declared.error.BtfError.TheVariants as errors
-use Rattle.btf_view.specs.Places.{AreIndexed, IsPlace}
+use Rattle.btf_view.specs.Places.{AreIndexed, IsRecordAt}
 use Rattle.btf_view.proofs.Places.{placed, as_many_places}
 
 -- the record of an id that exists, and its place
-pub there : (order : Endianness) (types places : List ℕ) (records : List Record) (id place : ℕ) → AreIndexed order types places records → true ≡ nat_lt id (length places) → place ≡ slice_index_or places id place → (r : Record) × (slice_get records id ≡ Some r) × IsPlace order types place r
+pub there : (order : Endianness) (types places : List ℕ) (records : List Record) (id place : ℕ) → AreIndexed order types places records → true ≡ nat_lt id (length places) → place ≡ slice_index_or places id place → (r : Record) × (slice_get records id ≡ Some r) × IsRecordAt order types place r
 there order types places records id place h lt is = placed order types places records id place h.are (slice_get_read places (length places) id place refl (ltb-true id (length places) (sym lt)) is)
 
 -- no type has this id

@@ -4,7 +4,7 @@ use Rattle.btf_view.specs.declared.sizing.Extent.{Extent}
 use Rattle.btf_view.specs.declared.sizing.Extent.TheVariants.{Bytes, Times, Nothing}
 
 -- an extent of the code as an extent of the definitions
-abbrev pub extent_of : Extent → model.Extent
-extent_of (Bytes bytes) = model.Bytes bytes
-extent_of (Times count type) = model.Times count type
-extent_of Nothing = model.NoExtent
+abbrev pub model_extent : Extent → model.Extent
+model_extent (Bytes bytes) = model.Bytes bytes
+model_extent (Times count type) = model.Times count type
+model_extent Nothing = model.NoExtent

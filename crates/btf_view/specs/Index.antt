@@ -46,8 +46,8 @@ pub record IsIndexed (order : Endianness) (bytes places : List ℕ) (index : Sec
 
 -- What indexing returns: the sections and the places; the first reason to refuse the bytes; or that there are fewer
 -- places than a type section of this length may need.
-abbrev pub Indexes : Endianness → List ℕ → List ℕ → Result Sections Unindexed → Type 0
-Indexes order bytes places (Ok index) = IsIndexed order bytes places index
-Indexes order bytes places (Err (Refused e)) =
+abbrev pub IndexesBlob : Endianness → List ℕ → List ℕ → Result Sections Unindexed → Type 0
+IndexesBlob order bytes places (Ok index) = IsIndexed order bytes places index
+IndexesBlob order bytes places (Err (Refused e)) =
     (refusal : Refusal) × (refusal_of e ≡ Some refusal) × IsRefusal order bytes refusal
-Indexes order bytes places (Err TooFewPlaces) = 12 * length places ≤ (header_of order bytes).type_len
+IndexesBlob order bytes places (Err TooFewPlaces) = 12 * length places ≤ (header_of order bytes).type_len

@@ -3,6 +3,7 @@ pub mod Header
 pub mod Index
 pub mod Record
 pub mod Forms
+pub mod Items
 pub mod Many
 pub mod Extent
 pub mod View

@@ -1,21 +1,23 @@
-//! Writing many types or members to a buffer.
+//! Writing many types or items to a buffer.
 
 ghost use Rattle.std.specs.Prelude.{◌≡◌, ◌*◌, ◌+◌, ◌<◌, ◌≤◌, ◌^◌, IfSome, List, map, length, take, drop};
 ghost use Rattle.btf_model.specs.Record.{Record, vlen};
 ghost use Rattle.btf_model.specs.Word.{words_at};
-ghost use Rattle.btf_view.specs.Forms.{Begins, HasAppended, ListsMembers, members_in, members_of, words_in};
-ghost use Rattle.btf_view.specs.Places.{AreIndexed, ArePlaces, IsPlace};
+ghost use Rattle.btf_view.specs.Forms.{Begins, HasAppended, ListsTypes, words_in};
+ghost use Rattle.btf_view.specs.Items.{AppendsMembers, EndsMembers, FillsItems, ListsMembersFrom, members_or_none};
+ghost use Rattle.btf_view.specs.Places.{ArePlaces, ForRecords, IsRecordAt};
 
-use crate::forms::{Member, TypeWords, member_of, type_words};
-use crate::record::{head_at, tail_at, whole_head_at, word_at};
-use btf_plain::{BtfKind, Endianness};
+use crate::forms::{Member, TypeWords, type_words};
+use crate::items::Listed;
+use crate::record::{head_at, most_head_at, tail_at, word_at};
+use btf_plain::{BtfKind, BtfMember, Endianness};
 
 /// Writes the first words of the type at a place. Most types take the short way.
 #[inline(always)]
 fn write_words(types: &[u8], place: u32, endianness: Endianness, slot: &mut TypeWords)
-    ensures { (r : Record) → IsPlace endianness types.now place r → slot.new ≡ words_in r }
+    ensures { (r : Record) → IsRecordAt endianness types.now place r → slot.new ≡ words_in r }
 {
-    let Some(head) = whole_head_at(types, place, endianness) else {
+    let Some(head) = most_head_at(types, place, endianness) else {
         write_any(types, place, endianness, slot);
         return;
     };
@@ -26,7 +28,7 @@ fn write_words(types: &[u8], place: u32, endianness: Endianness, slot: &mut Type
 #[cold]
 #[inline(never)]
 fn write_any(types: &[u8], place: u32, endianness: Endianness, slot: &mut TypeWords)
-    ensures { (r : Record) → IsPlace endianness types.now place r → slot.new ≡ words_in r }
+    ensures { (r : Record) → IsRecordAt endianness types.now place r → slot.new ≡ words_in r }
 {
     *slot = type_words(&head_at(types, place, endianness));
 }
@@ -35,7 +37,7 @@ fn write_any(types: &[u8], place: u32, endianness: Endianness, slot: &mut TypeWo
 #[inline(always)]
 fn fill_words(types: &[u8], places: &[u32], endianness: Endianness, out: &mut [TypeWords]) -> usize
     ensures { (rs : List Record) → ArePlaces endianness types.now places.now rs
-        → Begins (take (length out.old) (map words_in rs)) out.old out.new result }
+        → ListsTypes rs 0 out.old out.new result }
 {
     let count = out.len().min(places.len());
     for index in 0..count {
@@ -53,9 +55,8 @@ pub(crate) fn fill_types(
     first: u32,
     out: &mut [TypeWords],
 ) -> usize
-    ensures { (records : List Record) → AreIndexed endianness types.now places.now records
-        → Begins (take (length out.old) (drop first (map words_in records)))
-        out.old out.new result }
+    ensures { ForRecords endianness types.now places.now
+        (λ records. ListsTypes records first out.old out.new result) }
 {
     match places.get(first as usize..) {
         Some(rest) => fill_words(types, rest, endianness, out),
@@ -72,38 +73,54 @@ fn vlen_of(info: u32) -> usize
     (info & 0xffff) as usize
 }
 
-/// Writes the members of a record with this info word, whose words after the head the bytes begin with, as many as fit,
+/// The number of bytes of this many items.
+#[inline(always)]
+fn items_len<T: Listed>(count: usize) -> usize
+    requires { count < 2 ^ 16 }
+    ensures { result ≡ 4 * (T.WIDTH * count) }
+{
+    if T::WIDTH == 2 { 8 * count } else { 12 * count }
+}
+
+/// The item at an offset.
+#[inline(always)]
+fn item_at<T: Listed>(bytes: &[u8], at: usize, endianness: Endianness) -> T
+    requires { at + 4 * T.WIDTH ≤ length bytes.now }
+    ensures { T.item_words result ≡ words_at endianness T.WIDTH (drop at bytes.now) }
+{
+    let first = word_at(bytes, at, endianness);
+    let second = word_at(bytes, at + 4, endianness);
+    if T::WIDTH == 2 {
+        return T::from_words([first, second, 0]);
+    }
+    T::from_words([first, second, word_at(bytes, at + 8, endianness)])
+}
+
+/// Writes the items of a record with this info word, whose words after the head the bytes begin with, as many as fit,
 /// and returns their number.
 #[inline(always)]
-pub(crate) fn fill_members(
+pub(crate) fn fill_items<T: Listed>(
     info: u32,
     tail: &[u8],
     endianness: Endianness,
-    out: &mut [Member],
+    out: &mut [T::Form],
 ) -> usize
-    ensures items { 12 * vlen info ≤ length tail.now
-        → Begins (take (length out.old) (members_in info
-        (words_at endianness (3 * vlen info) tail.now))) out.old out.new result }
+    ensures items { FillsItems T.WIDTH T.forms_in endianness info tail.now out.old out.new result }
     ensures few { (result ≤ length out.old) × (result < 2 ^ 16) }
 {
     let vlen = vlen_of(info);
-    if tail.len() < 12 * vlen {
+    if tail.len() < items_len::<T>(vlen) {
         return 0;
     }
     let count = out.len().min(vlen);
     for index in 0..count {
-        let at = 12 * index;
-        out[index] = member_of(
-            info,
-            word_at(tail, at, endianness),
-            word_at(tail, at + 4, endianness),
-            word_at(tail, at + 8, endianness),
-        );
+        let at = items_len::<T>(index);
+        out[index] = item_at::<T>(tail, at, endianness).form(info);
     }
     count
 }
 
-/// Writes the members of a record with this info word, as `fill_members` does, from an index of a buffer on, and returns
+/// Writes the members of a record with this info word, as `fill_items` does, from an index of a buffer on, and returns
 /// their number; None if they do not all fit.
 #[inline(always)]
 fn append_items(
@@ -114,15 +131,13 @@ fn append_items(
     at: usize,
 ) -> Option<usize>
     requires { at ≤ length out.old }
-    ensures items { 12 * vlen info ≤ length tail.now
-        → HasAppended (members_in info (words_at endianness (3 * vlen info) tail.now))
-        out.old out.new at result }
+    ensures items { AppendsMembers endianness info tail.now out.old out.new at result }
     ensures few { IfSome result (λ count. (at + count ≤ length out.old) × (count < 2 ^ 16)) }
 {
     if out.len() - at < vlen_of(info) {
         return None;
     }
-    Some(fill_members(info, tail, endianness, &mut out[at..]))
+    Some(fill_items::<BtfMember>(info, tail, endianness, &mut out[at..]))
 }
 
 /// Writes the members of the record at a place from an index of a buffer on, and returns their number; None if they do
@@ -136,8 +151,8 @@ fn append_members(
     at: usize,
 ) -> Option<usize>
     requires { at ≤ length out.old }
-    ensures items { (r : Record) → IsPlace endianness types.now place r
-        → HasAppended (members_of r) out.old out.new at result }
+    ensures items { (r : Record) → IsRecordAt endianness types.now place r
+        → HasAppended (members_or_none r) out.old out.new at result }
     ensures few { IfSome result (λ count. (at + count ≤ length out.old) × (count < 2 ^ 16)) }
 {
     let head = head_at(types, place, endianness);
@@ -153,8 +168,9 @@ fn append_members(
     }
 }
 
-/// Writes the members of the records at these places, record after record, and the number of the members of each record,
-/// as long as a record has a place in `counts` and its members fit. Returns the numbers of records and of members.
+/// Writes the members of the records at these places, record after record, and the number of the members of each
+/// record, as long as a record has a place in `counts` and its members fit. Returns the numbers of records and of
+/// members.
 #[inline(always)]
 fn append_all(
     types: &[u8],
@@ -164,7 +180,7 @@ fn append_all(
     out: &mut [Member],
 ) -> (usize, usize)
     ensures { (rs : List Record) → ArePlaces endianness types.now places.now rs
-        → ListsMembers rs counts.old counts.new out.old out.new result.0 result.1 }
+        → EndsMembers rs counts.old counts.new out.old out.new result }
 {
     let records = counts.len().min(places.len());
     let mut written = 0;
@@ -188,9 +204,8 @@ pub(crate) fn fill_all_members(
     counts: &mut [u32],
     out: &mut [Member],
 ) -> (usize, usize)
-    ensures { (records : List Record) → AreIndexed endianness types.now places.now records
-        → ListsMembers (drop first records) counts.old counts.new out.old out.new
-        result.0 result.1 }
+    ensures { ForRecords endianness types.now places.now
+        (λ records. ListsMembersFrom records first counts.old counts.new out.old out.new result) }
 {
     match places.get(first as usize..) {
         Some(rest) => append_all(types, rest, endianness, counts, out),

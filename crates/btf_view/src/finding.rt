@@ -5,11 +5,11 @@ ghost use Rattle.btf_model.specs.Record as model;
 ghost use Rattle.btf_model.specs.Record.{Record, kind_number};
 ghost use Rattle.btf_plain.specs.Kind as kinds;
 ghost use Rattle.btf_view.specs.Finding.{LooksUp};
-ghost use Rattle.btf_view.specs.Places.{AreIndexed};
+ghost use Rattle.btf_view.specs.Places.{ForRecords};
 ghost use Rattle.btf_view.specs.Record.{IsReadAs};
 
 use crate::record::raw_head_at;
-use crate::text::{has_name_at, is_comparable, readable_end, strings_until};
+use crate::text::{comparable_end, has_name, readable_bytes};
 use btf_plain::{BtfKind, Endianness, Head};
 
 /// The result of looking up a kind and a name.
@@ -21,8 +21,6 @@ pub enum Lookup {
     Missing,
     /// A type of the kind, below any that has the name, has this string offset, at which no text can be read.
     Unreadable(u32),
-    /// The name has a zero byte or a byte 0xEF, so that it can't be compared with the bytes of a text.
-    Incomparable,
 }
 
 /// The number of a kind.
@@ -82,7 +80,8 @@ fn is_other(readable: &[u8], head: &Head, number: u32, first: u8) -> bool
     }
 }
 
-/// The least id of a type of this kind and name. No name of the table is read to its end.
+/// The least id of a type of this kind and name. No name of the table is read to its end, unless the name that is
+/// searched for can't be compared with bytes.
 #[inline(always)]
 pub(crate) fn find_in(
     types: &[u8],
@@ -92,15 +91,12 @@ pub(crate) fn find_in(
     name: &str,
     kind: BtfKind,
 ) -> Lookup
-    ensures { (records : List Record) → AreIndexed endianness types.now places.now records
-        → LooksUp strings.now records (kinds.kind kind) name.now result }
+    ensures { ForRecords endianness types.now places.now
+        (λ records. LooksUp strings.now records (kinds.kind kind) name.now result) }
 {
-    if !is_comparable(name) {
-        return Lookup::Incomparable;
-    }
     let number = number_of(kind);
-    let end = readable_end(strings);
-    let readable = strings_until(strings, end);
+    let end = comparable_end(strings, name);
+    let readable = readable_bytes(strings, end);
     let first = first_byte(name);
     let ids = places.len().min(u32::MAX as usize);
     for id in 0..ids {
@@ -112,10 +108,10 @@ pub(crate) fn find_in(
             continue;
         }
         let offset = kept_name(&raw, number);
-        if offset as usize >= end {
+        let Some(is_named) = has_name(strings, offset, name, end) else {
             return Lookup::Unreadable(offset);
-        }
-        if has_name_at(strings, offset, name) {
+        };
+        if is_named {
             return Lookup::Found(id as u32);
         }
     }

@@ -1,7 +1,7 @@
-//! Types and members in the form that C reads.
+//! Types and their items in the form that C reads.
 
 ghost use Rattle.std.specs.Prelude.{◌≡◌};
-ghost use Rattle.btf_model.specs.Record.{Record, member_bit_field_size, member_bit_offset};
+ghost use Rattle.btf_model.specs.Record.{Record};
 ghost use Rattle.btf_view.specs.Forms as specs;
 ghost use Rattle.btf_view.specs.Record.{HasHead};
 
@@ -36,6 +36,42 @@ pub struct Member {
     pub bit_field_size: u32,
 }
 
+/// A variant of an ENUM or ENUM64.
+#[repr(C)]
+#[derive(Clone, Copy, Debug)]
+pub struct Variant {
+    /// The string offset of the name.
+    pub name_offset: u32,
+    /// The number of bits of the value: 32 in an ENUM, 64 in an ENUM64.
+    pub bits: u32,
+    /// 1 if the values of the type are signed, otherwise 0.
+    pub is_signed: u8,
+    /// The value, zero-extended to 64 bits.
+    pub value: u64,
+}
+
+/// A parameter of a FUNC_PROTO.
+#[repr(C)]
+#[derive(Clone, Copy, Debug)]
+pub struct Param {
+    /// The string offset of the name.
+    pub name_offset: u32,
+    /// The id of the type; 0 represents further arguments of any type.
+    pub btf_type: u32,
+}
+
+/// An entry of a DATASEC.
+#[repr(C)]
+#[derive(Clone, Copy, Debug)]
+pub struct Entry {
+    /// The id of the VAR.
+    pub btf_type: u32,
+    /// The offset of the variable in the section, in bytes.
+    pub offset: u32,
+    /// Its size in bytes.
+    pub size: u32,
+}
+
 /// The first words of the type with this head.
 #[inline(always)]
 pub(crate) fn type_words(head: &Head) -> TypeWords
@@ -46,38 +82,5 @@ pub(crate) fn type_words(head: &Head) -> TypeWords
         name_offset: head.name,
         info: head.info,
         size_or_type: head.third,
-    }
-}
-
-/// The bit at which a member with this offset word begins, in a record with this info word.
-#[inline(always)]
-fn bit_offset(info: u32, offset: u32) -> u32
-    ensures { result ≡ member_bit_offset info offset }
-{
-    if info >> 31 == 1 {
-        offset & 0xff_ffff
-    } else {
-        offset
-    }
-}
-
-/// The number of bits of a member with this offset word, in a record with this info word; 0 if it is no bit-field.
-#[inline(always)]
-fn bit_field_size(info: u32, offset: u32) -> u32
-    ensures { result ≡ member_bit_field_size info offset }
-{
-    if info >> 31 == 1 { offset >> 24 } else { 0 }
-}
-
-/// A member of a record with this info word, by the three words of the member.
-#[inline(always)]
-pub(crate) fn member_of(info: u32, name_offset: u32, btf_type: u32, offset: u32) -> Member
-    ensures { result ≡ specs.member info name_offset btf_type offset }
-{
-    Member {
-        name_offset,
-        btf_type,
-        bit_offset: bit_offset(info, offset),
-        bit_field_size: bit_field_size(info, offset),
     }
 }

@@ -1,8 +1,7 @@
 //! The header of a blob.
 
-ghost use Rattle.std.specs.Prelude.{◌≡◌, ◌+◌, ◌<◌, ◌≤◌, length, MatchResult, MatchOption};
-ghost use Rattle.btf_model.specs.Blob.{header_len, header_of, slice};
-ghost use Rattle.btf_view.specs.Header.{model_header};
+ghost use Rattle.std.specs.Prelude.{◌+◌};
+ghost use Rattle.btf_view.specs.Header.{ReadsBlobHeader, SlicesData};
 
 use btf_plain::{BtfError, Endianness};
 
@@ -22,10 +21,7 @@ pub struct Header {
 
 /// `len` bytes of the data from an offset on, which counts from the end of the header. None if they exceed the data.
 pub fn section(data: &[u8], hdr_len: u32, offset: u32, len: u32) -> Option<&[u8]>
-    ensures { MatchOption result
-        (length «data».now < hdr_len + offset + len)
-        (λ s. (hdr_len + offset + len ≤ length «data».now)
-        × (s.now ≡ slice (hdr_len + offset) len «data».now)) }
+    ensures { SlicesData «data».now (hdr_len + offset) len result }
 {
     let start = hdr_len as usize + offset as usize;
     data.get(start..start + len as usize)
@@ -34,10 +30,7 @@ pub fn section(data: &[u8], hdr_len: u32, offset: u32, len: u32) -> Option<&[u8]
 impl Header {
     /// The header at the front of the data, or `InvalidHeader` if there are fewer than 24 bytes.
     pub fn read(data: &[u8], endianness: Endianness) -> Result<Header, BtfError>
-        ensures { MatchResult result
-            (λ h. (header_len ≤ length «data».now)
-            × (model_header h ≡ header_of endianness «data».now))
-            (λ e. (length «data».now < header_len) × (e ≡ BtfError.InvalidHeader)) }
+        ensures { ReadsBlobHeader endianness «data».now result }
     {
         let Some(bytes) = data.first_chunk::<24>() else {
             return Err(BtfError::InvalidHeader);

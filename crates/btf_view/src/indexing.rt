@@ -1,7 +1,7 @@
 //! Finding the records of a blob, in one pass.
 
 ghost use Rattle.std.specs.Prelude.{◌≡◌, ◌≤◌, length};
-ghost use Rattle.btf_view.specs.Index.{FillsPlaces, Indexes};
+ghost use Rattle.btf_view.specs.Index.{FillsPlaces, IndexesBlob};
 
 use crate::header::{Header, section};
 use crate::length::record_len;
@@ -46,7 +46,7 @@ pub enum Unindexed {
 /// Reports the first error of `Btf::parse`, or `TooFewPlaces` if there are fewer places than types. After an error the
 /// places have no meaning.
 pub fn index(data: &[u8], endianness: Endianness, places: &mut [u32]) -> Result<Sections, Unindexed>
-    ensures { Indexes endianness «data».now places.new result }
+    ensures { IndexesBlob endianness «data».now places.new result }
 {
     let header = match Header::read(data, endianness) {
         Ok(header) => header,

@@ -6,6 +6,7 @@ mod finding;
 mod forms;
 mod header;
 mod indexing;
+mod items;
 mod length;
 mod record;
 mod sizing;
@@ -14,8 +15,9 @@ mod view;
 mod walk;
 
 pub use finding::Lookup;
-pub use forms::{Member, TypeWords};
+pub use forms::{Entry, Member, Param, TypeWords, Variant};
 pub use indexing::{Sections, Unindexed, index};
+pub use items::Listed;
 pub use text::readable_end;
 pub use view::View;
 pub use walk::WALK_LIMIT;

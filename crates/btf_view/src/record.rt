@@ -1,12 +1,14 @@
 //! The words of the record at a place.
 
-ghost use Rattle.std.specs.Prelude.{◌≡◌, ◌⊎◌, ◌≢◌, ◌+◌, ◌≤◌, ℕ, List, length, Some, IfSome, IsTrue};
+ghost use Rattle.std.specs.Prelude.{◌≡◌, ◌⊎◌, ◌≢◌, ◌+◌, ◌<◌, ◌≤◌, ℕ, List, length, Some, IfSome, IsSomeAnd};
+ghost use Rattle.std.specs.Option.{option_map};
 ghost use Rattle.btf_model.specs.Blob as blob;
 ghost use Rattle.btf_model.specs.Record.{Record, Kind, kind_of};
 ghost use Rattle.btf_model.specs.Spelling.{kept};
 ghost use Rattle.btf_plain.specs.Head.{headed};
-ghost use Rattle.btf_view.specs.Places.{IsPlace};
-ghost use Rattle.btf_view.specs.Record.{HasHead, HasTail, IsReadAs};
+ghost use Rattle.btf_plain.specs.Kind as code;
+ghost use Rattle.btf_view.specs.Places.{IsRecordAt};
+ghost use Rattle.btf_view.specs.Record.{AreParts, HasHead, HasTail, IsReadAs};
 
 use btf_plain::{BtfKind, Endianness, Head};
 
@@ -30,37 +32,27 @@ const NO_HEAD: Head = Head {
     third: 0,
 };
 
-/// A bit for the number of each kind of which reading does not retain the whole head: Unknown, ARRAY and FWD.
-const DROPPING: u32 = 0x89;
+/// All bits of a word.
+const ALL: u32 = u32::MAX;
 
-/// Whether reading retains the whole head. Most types have such a kind.
-#[inline(always)]
-fn is_whole(head: &Head) -> bool
-    ensures { IsTrue result → (k : Kind) (tail : List ℕ) → kind_of head.now.info ≡ Some k
-        → HasHead head.now (kept k (headed head.now tail)) }
-{
-    DROPPING >> head.kind() & 1 == 0
-}
-
-/// The numbers of the kinds whose third word is not retained.
-const ARRAY: u32 = 3;
-
-const FWD: u32 = 7;
+/// The bits of the third word that reading retains, by the number of the kind: none of ARRAY and FWD. A table costs
+/// less than a branch, because ARRAYs come at irregular distances, and a processor does not predict them.
+static RETAINED: [u32; 32] = [
+    ALL, ALL, ALL, 0, ALL, ALL, ALL, 0, ALL, ALL, ALL, ALL, ALL, ALL, ALL, ALL, ALL, ALL, ALL, ALL,
+    ALL, ALL, ALL, ALL, ALL, ALL, ALL, ALL, ALL, ALL, ALL, ALL,
+];
 
 /// What reading retains of the third word of a record, by the number of its kind.
 #[inline(always)]
 fn kept_third(kind: u32, third: u32) -> u32
+    requires { kind < 32 }
     ensures dropped { (kind ≡ 3) ⊎ (kind ≡ 7) → result ≡ 0 }
     ensures kept { kind ≢ 3 → kind ≢ 7 → result ≡ third }
 {
-    if kind == ARRAY || kind == FWD {
-        0
-    } else {
-        third
-    }
+    third & RETAINED[kind as usize]
 }
 
-/// What reading retains of a head. There is no branch but for the kind 0, which only the type of id 0 has in most tables.
+/// What reading retains of a head. There is no branch but for kind 0, which only the type of id 0 has in most tables.
 #[inline(always)]
 pub(crate) fn kept_head(head: Head) -> Head
     ensures { (k : Kind) (tail : List ℕ) → kind_of head.info ≡ Some k
@@ -80,7 +72,7 @@ pub(crate) fn kept_head(head: Head) -> Head
 /// The first three words at a place, or zeroes if there are none. There is one check for the three.
 #[inline(always)]
 pub(crate) fn raw_head_at(types: &[u8], place: u32, endianness: Endianness) -> Head
-    ensures { (r : Record) → IsPlace endianness types.now place r → IsReadAs result r }
+    ensures { (r : Record) → IsRecordAt endianness types.now place r → IsReadAs result r }
 {
     let at = place as usize;
     if types.len() < at + 12 {
@@ -96,15 +88,16 @@ pub(crate) fn raw_head_at(types: &[u8], place: u32, endianness: Endianness) -> H
 /// The first three words of the record at a place, or zeroes if there is none.
 #[inline(always)]
 pub(crate) fn head_at(types: &[u8], place: u32, endianness: Endianness) -> Head
-    ensures { (r : Record) → IsPlace endianness types.now place r → HasHead result r }
+    ensures { (r : Record) → IsRecordAt endianness types.now place r → HasHead result r }
 {
     kept_head(raw_head_at(types, place, endianness))
 }
 
-/// The first three words of the record at a place, if there is one and reading retains all three.
+/// The first three words of the record at a place, if it has a kind other than 0. Most types have, so a loop over types
+/// has a short way for them.
 #[inline(always)]
-pub(crate) fn whole_head_at(types: &[u8], place: u32, endianness: Endianness) -> Option<Head>
-    ensures { IfSome result (λ head. (r : Record) → IsPlace endianness types.now place r
+pub(crate) fn most_head_at(types: &[u8], place: u32, endianness: Endianness) -> Option<Head>
+    ensures { IfSome result (λ head. (r : Record) → IsRecordAt endianness types.now place r
         → HasHead head r) }
 {
     let at = place as usize;
@@ -116,13 +109,16 @@ pub(crate) fn whole_head_at(types: &[u8], place: u32, endianness: Endianness) ->
         info: word_at(types, at + 4, endianness),
         third: word_at(types, at + 8, endianness),
     };
-    if is_whole(&head) { Some(head) } else { None }
+    if head.kind() == 0 {
+        return None;
+    }
+    Some(kept_head(head))
 }
 
 /// The bytes after the first three words of the record at a place; none if the place is past the section.
 #[inline(always)]
 pub(crate) fn tail_at(types: &[u8], place: u32, endianness: Endianness) -> &[u8]
-    ensures { (r : Record) → IsPlace endianness types.now place r
+    ensures { (r : Record) → IsRecordAt endianness types.now place r
         → HasTail endianness result.now r }
 {
     let _ = endianness;
@@ -130,4 +126,40 @@ pub(crate) fn tail_at(types: &[u8], place: u32, endianness: Endianness) -> &[u8]
         Some(tail) => tail,
         None => &[],
     }
+}
+
+/// A record: its kind, its info word, and the bytes after its first three words.
+#[derive(Clone, Copy)]
+pub(crate) struct Parts<'a> {
+    pub kind: BtfKind,
+    pub info: u32,
+    pub tail: &'a [u8],
+}
+
+/// The kind in the info word of a head.
+#[inline(always)]
+fn kind_of_head(head: &Head) -> Option<BtfKind>
+    ensures { option_map code.kind result ≡ kind_of head.now.info }
+{
+    let Ok(kind) = BtfKind::try_from(head.kind()) else {
+        return None;
+    };
+    Some(kind)
+}
+
+/// The parts of the record at a place. Each record has a kind.
+#[inline(always)]
+pub(crate) fn parts_at(types: &[u8], place: u32, endianness: Endianness) -> Option<Parts<'_>>
+    ensures { (r : Record) → IsRecordAt endianness types.now place r
+        → IsSomeAnd result (λ parts. AreParts endianness parts r) }
+{
+    let head = head_at(types, place, endianness);
+    let Some(kind) = kind_of_head(&head) else {
+        return None;
+    };
+    Some(Parts {
+        kind,
+        info: head.info,
+        tail: tail_at(types, place, endianness),
+    })
 }

@@ -1,15 +1,14 @@
 //! The size of a type.
 
 ghost use Rattle.std.specs.Prelude.{◌≡◌, ◌≢◌, ◌*◌, ◌+◌, ◌<◌, ◌≤◌, ◌^◌, List, Some, MatchResult};
-ghost use Rattle.btf_model.specs.Record as kinds;
-ghost use Rattle.btf_model.specs.Record.{Record, kind_of};
+ghost use Rattle.btf_model.specs.Record.{Array, Record, kind_of};
 ghost use Rattle.btf_model.specs.Walk as model;
 ghost use Rattle.btf_model.specs.Walk.{HasSize};
 ghost use Rattle.btf_plain.specs.Error.{Meets};
 ghost use Rattle.btf_plain.specs.Kind as kinds_of;
-ghost use Rattle.btf_view.specs.Extent.{extent_of};
+ghost use Rattle.btf_view.specs.Extent.{model_extent};
 ghost use Rattle.btf_view.specs.Many.{FillsSizes, SizeOrMost};
-ghost use Rattle.btf_view.specs.Places.{AreIndexed, IsPlace};
+ghost use Rattle.btf_view.specs.Places.{ForRecords, IsRecordAt};
 
 use crate::record::{raw_head_at, word_at};
 use crate::walk::{WALK_LIMIT, places_from};
@@ -29,8 +28,8 @@ pub(crate) enum Extent {
 /// What the ARRAY at a place gives for its size.
 #[inline(always)]
 fn array_extent(types: &[u8], place: u32, endianness: Endianness) -> Extent
-    ensures { (r : Record) → IsPlace endianness types.now place r
-        → kind_of r.info ≡ Some kinds.Array → extent_of result ≡ model.array_extent r.tail }
+    ensures { (r : Record) → IsRecordAt endianness types.now place r
+        → kind_of r.info ≡ Some Array → model_extent result ≡ model.array_extent r.tail }
 {
     let at = place as usize + 12;
     if types.len() < at + 12 {
@@ -44,7 +43,7 @@ fn array_extent(types: &[u8], place: u32, endianness: Endianness) -> Extent
 #[inline(always)]
 fn plain_extent(kind: BtfKind, third: u32) -> Extent
     ensures { (r : Record) → third ≡ r.third → kind ≢ BtfKind.Array
-        → extent_of result ≡ model.extent (Some (kinds_of.kind kind)) r }
+        → model_extent result ≡ model.extent (Some (kinds_of.kind kind)) r }
 {
     match kind {
         BtfKind::Int
@@ -63,8 +62,8 @@ fn plain_extent(kind: BtfKind, third: u32) -> Extent
 /// What the type at a place gives for its size. A word that reading drops gives nothing.
 #[inline(always)]
 fn extent_at(types: &[u8], place: u32, endianness: Endianness) -> Extent
-    ensures { (r : Record) → IsPlace endianness types.now place r
-        → extent_of result ≡ model.extent (kind_of r.info) r }
+    ensures { (r : Record) → IsRecordAt endianness types.now place r
+        → model_extent result ≡ model.extent (kind_of r.info) r }
 {
     let head = raw_head_at(types, place, endianness);
     let Ok(kind) = BtfKind::try_from(head.kind()) else {
@@ -98,8 +97,8 @@ pub(crate) fn size_of(
     endianness: Endianness,
     type_id: u32,
 ) -> Result<u32, BtfError>
-    ensures { (records : List Record) → AreIndexed endianness types.now places.now records
-        → Meets (λ n. n) result (HasSize records type_id) }
+    ensures { ForRecords endianness types.now places.now
+        (λ records. Meets (λ n. n) result (HasSize records type_id)) }
 {
     let mut id = type_id;
     let mut count = 1;
@@ -125,8 +124,7 @@ pub(crate) fn size_of(
 /// The size of a type in bytes, or 2^64 - 1 if it has none.
 #[inline(always)]
 fn size_or_most(types: &[u8], places: &[u32], endianness: Endianness, id: u32) -> u64
-    ensures { (records : List Record) → AreIndexed endianness types.now places.now records
-        → SizeOrMost records id result }
+    ensures { ForRecords endianness types.now places.now (λ records. SizeOrMost records id result) }
 {
     let Ok(size) = size_of(types, places, endianness, id) else {
         return u64::MAX;
@@ -143,8 +141,8 @@ pub(crate) fn fill_sizes(
     first: u32,
     out: &mut [u64],
 ) -> usize
-    ensures { (records : List Record) → AreIndexed endianness types.now places.now records
-        → FillsSizes records first out.old out.new result }
+    ensures { ForRecords endianness types.now places.now
+        (λ records. FillsSizes records first out.old out.new result) }
 {
     let count = places_from(places, first, out.len());
     for index in 0..count {

@@ -1,6 +1,6 @@
 //! A view of a table.
 
-ghost use Rattle.std.specs.Prelude.{◌≡◌, ◌≤◌, ◌<◌, ◌^◌, length, List, map, take, drop, slice_get, Some, MatchResult};
+ghost use Rattle.std.specs.Prelude.{◌≡◌, List};
 ghost use Rattle.btf_model.specs.Record.{Record};
 ghost use Rattle.btf_model.specs.Walk.{Resolves, HasSize};
 ghost use Rattle.std.specs.Option.{option_map};
@@ -8,19 +8,22 @@ ghost use Rattle.btf_model.specs.Text.{bytes_at};
 ghost use Rattle.btf_plain.specs.Error.{Meets};
 ghost use Rattle.btf_plain.specs.Kind as kinds;
 ghost use Rattle.btf_view.specs.Finding.{LooksUp};
-ghost use Rattle.btf_view.specs.Forms.{Begins, ListsItems, ListsMembers, MembersOf, words_in};
+ghost use Rattle.btf_view.specs.Forms.{ListsItems, ListsTypes};
+ghost use Rattle.btf_view.specs.Items.{ItemsOf, ListsMembersFrom, entries, members, params, variants};
 ghost use Rattle.btf_view.specs.Many.{FillsResolved, FillsSizes};
-ghost use Rattle.btf_view.specs.Record.{HasHead};
+ghost use Rattle.btf_view.specs.Record.{FindsHead, FindsParts};
 ghost use Rattle.btf_view.specs.View.{Shows};
 
-use crate::filling::{fill_all_members, fill_members, fill_types};
+use crate::filling::{fill_all_members, fill_items, fill_types};
 use crate::finding::{Lookup, find_in};
-use crate::forms::{Member, TypeWords};
-use crate::record::{head_at, tail_at};
+use crate::forms::{Entry, Member, Param, TypeWords, Variant};
+use crate::record::{Parts, head_at, parts_at};
 use crate::sizing::{fill_sizes, size_of};
 use crate::text::name_at;
 use crate::walk::{fill_resolved, resolve_from};
-use btf_plain::{BtfError, BtfKind, Endianness, Head};
+use btf_plain::{
+    BtfEnum, BtfEnum64, BtfError, BtfKind, BtfMember, BtfParam, DataSecEntry, Endianness, Head,
+};
 
 /// A view of a table: the bytes of both sections, and the places of the records, which `index` finds.
 #[derive(Clone, Copy)]
@@ -39,9 +42,8 @@ impl<'a> View<'a> {
     /// The first three words of the type of an id. Fails with `UnknownBtfType` of the id if there is no such type.
     #[inline(always)]
     pub fn head(&self, type_id: u32) -> Result<Head, BtfError>
-        ensures { (records : List Record) → Shows self.now records → MatchResult result
-            (λ head. (r : Record) × (slice_get records type_id ≡ Some r) × HasHead head r)
-            (λ e. (length records ≤ type_id) × (e ≡ BtfError.UnknownBtfType type_id)) }
+        ensures { (records : List Record) → Shows self.now records
+            → FindsHead records type_id result }
     {
         match self.places.get(type_id as usize) {
             Some(place) => Ok(head_at(self.types, *place, self.endianness)),
@@ -52,13 +54,26 @@ impl<'a> View<'a> {
     /// Writes the first words of the types from an id on, as many as there are and as fit, and returns their number.
     pub fn types(&self, first: u32, out: &mut [TypeWords]) -> usize
         ensures { (records : List Record) → Shows self.now records
-            → Begins (take (length out.old) (drop first (map words_in records)))
-            out.old out.new result }
+            → ListsTypes records first out.old out.new result }
     {
         let (types, places) = (self.types, self.places);
         match self.endianness {
             Endianness::Little => fill_types(types, places, Endianness::Little, first, out),
             Endianness::Big => fill_types(types, places, Endianness::Big, first, out),
+        }
+    }
+
+    /// The parts of the record of an id. Fails with `UnknownBtfType` of the id if there is no such type.
+    fn parts(&self, type_id: u32) -> Result<Parts<'a>, BtfError>
+        ensures { (records : List Record) → Shows self.now records
+            → FindsParts self.now.endianness records type_id result }
+    {
+        let Some(place) = self.places.get(type_id as usize) else {
+            return Err(BtfError::UnknownBtfType { type_id });
+        };
+        match parts_at(self.types, *place, self.endianness) {
+            Some(parts) => Ok(parts),
+            None => Err(BtfError::UnexpectedBtfType { type_id }),
         }
     }
 
@@ -68,31 +83,62 @@ impl<'a> View<'a> {
     /// type has another kind. After an error the buffer is unchanged.
     pub fn members(&self, type_id: u32, out: &mut [Member]) -> Result<usize, BtfError>
         ensures { (records : List Record) → Shows self.now records
-            → ListsItems out.old out.new result (MembersOf records type_id) }
+            → ListsItems out.old out.new result (ItemsOf members records type_id) }
     {
-        let Some(place) = self.places.get(type_id as usize) else {
-            return Err(BtfError::UnknownBtfType { type_id });
-        };
-        let head = head_at(self.types, *place, self.endianness);
-        let Ok(kind) = BtfKind::try_from(head.kind()) else {
-            return Err(BtfError::UnexpectedBtfType { type_id });
-        };
+        let order = self.endianness;
+        let Parts { kind, info, tail } = self.parts(type_id)?;
         match kind {
-            BtfKind::Struct | BtfKind::Union => {
-                let tail = tail_at(self.types, *place, self.endianness);
-                Ok(fill_members(head.info, tail, self.endianness, out))
-            }
+            BtfKind::Struct | BtfKind::Union => Ok(fill_items::<BtfMember>(info, tail, order, out)),
+            _ => Err(BtfError::UnexpectedBtfType { type_id }),
+        }
+    }
+
+    /// Writes the variants of an ENUM or ENUM64, as `members` writes the members of a STRUCT.
+    pub fn variants(&self, type_id: u32, out: &mut [Variant]) -> Result<usize, BtfError>
+        ensures { (records : List Record) → Shows self.now records
+            → ListsItems out.old out.new result (ItemsOf variants records type_id) }
+    {
+        let order = self.endianness;
+        let Parts { kind, info, tail } = self.parts(type_id)?;
+        match kind {
+            BtfKind::Enum => Ok(fill_items::<BtfEnum>(info, tail, order, out)),
+            BtfKind::Enum64 => Ok(fill_items::<BtfEnum64>(info, tail, order, out)),
+            _ => Err(BtfError::UnexpectedBtfType { type_id }),
+        }
+    }
+
+    /// Writes the parameters of a FUNC_PROTO, as `members` writes the members of a STRUCT.
+    pub fn params(&self, type_id: u32, out: &mut [Param]) -> Result<usize, BtfError>
+        ensures { (records : List Record) → Shows self.now records
+            → ListsItems out.old out.new result (ItemsOf params records type_id) }
+    {
+        let order = self.endianness;
+        let Parts { kind, info, tail } = self.parts(type_id)?;
+        match kind {
+            BtfKind::FuncProto => Ok(fill_items::<BtfParam>(info, tail, order, out)),
+            _ => Err(BtfError::UnexpectedBtfType { type_id }),
+        }
+    }
+
+    /// Writes the entries of a DATASEC, as `members` writes the members of a STRUCT.
+    pub fn entries(&self, type_id: u32, out: &mut [Entry]) -> Result<usize, BtfError>
+        ensures { (records : List Record) → Shows self.now records
+            → ListsItems out.old out.new result (ItemsOf entries records type_id) }
+    {
+        let order = self.endianness;
+        let Parts { kind, info, tail } = self.parts(type_id)?;
+        match kind {
+            BtfKind::DataSec => Ok(fill_items::<DataSecEntry>(info, tail, order, out)),
             _ => Err(BtfError::UnexpectedBtfType { type_id }),
         }
     }
 
     /// Writes the members of the types from an id on, type after type, and the number of the members of each type to
-    /// `counts`, 0 for a type that is no STRUCT or UNION. It stops before the first type that has no place in `counts` or
-    /// whose members do not all fit. Returns the numbers of types and of members.
+    /// `counts`, 0 for a type that is no STRUCT or UNION. It stops before the first type that has no place in `counts`
+    /// or whose members do not all fit. Returns the numbers of types and of members.
     pub fn members_from(&self, first: u32, counts: &mut [u32], out: &mut [Member]) -> (usize, usize)
         ensures { (records : List Record) → Shows self.now records
-            → ListsMembers (drop first records) counts.old counts.new out.old out.new
-            result.0 result.1 }
+            → ListsMembersFrom records first counts.old counts.new out.old out.new result }
     {
         let (types, places) = (self.types, self.places);
         match self.endianness {

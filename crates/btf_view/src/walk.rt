@@ -7,7 +7,7 @@ ghost use Rattle.btf_model.specs.Walk.{modified_type, Resolves};
 ghost use Rattle.btf_plain.specs.Error.{Meets};
 ghost use Rattle.btf_plain.specs.Kind as kinds;
 ghost use Rattle.btf_view.specs.Many.{FillsResolved, ResolvedOrMost};
-ghost use Rattle.btf_view.specs.Places.{AreIndexed};
+ghost use Rattle.btf_view.specs.Places.{ForRecords};
 ghost use Rattle.btf_view.specs.Record.{IsReadAs};
 
 use crate::record::raw_head_at;
@@ -51,8 +51,8 @@ pub(crate) fn resolve_from(
     endianness: Endianness,
     type_id: u32,
 ) -> Result<u32, BtfError>
-    ensures { (records : List Record) → AreIndexed endianness types.now places.now records
-        → Meets (λ id. id) result (Resolves records type_id) }
+    ensures { ForRecords endianness types.now places.now
+        (λ records. Meets (λ id. id) result (Resolves records type_id)) }
 {
     let mut id = type_id;
     for _ in 0..WALK_LIMIT {
@@ -71,8 +71,8 @@ pub(crate) fn resolve_from(
 /// The id that an id resolves to, or 2^32 - 1 if it resolves to none.
 #[inline(always)]
 fn resolved_or_most(types: &[u8], places: &[u32], endianness: Endianness, id: u32) -> u32
-    ensures { (records : List Record) → AreIndexed endianness types.now places.now records
-        → ResolvedOrMost records id result }
+    ensures { ForRecords endianness types.now places.now
+        (λ records. ResolvedOrMost records id result) }
 {
     let Ok(to) = resolve_from(types, places, endianness, id) else {
         return u32::MAX;
@@ -100,8 +100,8 @@ pub(crate) fn fill_resolved(
     first: u32,
     out: &mut [u32],
 ) -> usize
-    ensures { (records : List Record) → AreIndexed endianness types.now places.now records
-        → FillsResolved records first out.old out.new result }
+    ensures { ForRecords endianness types.now places.now
+        (λ records. FillsResolved records first out.old out.new result) }
 {
     let count = places_from(places, first, out.len());
     for index in 0..count {

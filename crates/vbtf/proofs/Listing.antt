@@ -17,29 +17,29 @@ use Rattle.btf_plain.specs.declared.items.DataSecEntry.{DataSecEntry}
 use Rattle.btf_records.specs.BtfType.{record_of, type_kind}
 use Rattle.btf_records.specs.declared.btf_type.BtfType.{BtfType}
 use Rattle.btf_records.specs.declared.btf_type.BtfType.TheVariants as types
-use Rattle.vbtf.specs.Lists.{ItemsOf, variant, variants, variants_in, wide_variants_in, param, params, params_in, entry, entries, entries_in}
-use Rattle.btf_view.specs.Forms.{Begins, ListsItems, member, members, members_in}
+use Rattle.btf_view.specs.Forms.{Begins, ListsItems}
+use Rattle.btf_view.specs.Items.{ItemsOf, member_form, members, member_forms, variant_form, variants, variant_forms, wide_variant_forms, param_form, params, param_forms, entry_form, entries, entry_forms}
 
 -- the forms of items are the items in their words
-pub members_listed : (info : ℕ) (ms : List BtfMember) → members_in info (flat_map member_words ms) ≡ map (λ m. member info m.name_offset m.btf_type m.offset) ms
+pub members_listed : (info : ℕ) (ms : List BtfMember) → member_forms info (flat_map member_words ms) ≡ map (λ m. member_form info m.name_offset m.btf_type m.offset) ms
 members_listed info [] = refl
-members_listed info (m ∷ ms) = ap (λ xs. member info m.name_offset m.btf_type m.offset ∷ xs) (members_listed info ms)
+members_listed info (m ∷ ms) = ap (λ xs. member_form info m.name_offset m.btf_type m.offset ∷ xs) (members_listed info ms)
 
-pub variants_listed : (info : ℕ) (vs : List BtfEnum) → variants_in info (flat_map enum_words vs) ≡ map (λ v. variant info 32 v.name_offset v.value) vs
+pub variants_listed : (info : ℕ) (vs : List BtfEnum) → variant_forms info (flat_map enum_words vs) ≡ map (λ v. variant_form info 32 v.name_offset v.value) vs
 variants_listed info [] = refl
-variants_listed info (v ∷ vs) = ap (λ xs. variant info 32 v.name_offset v.value ∷ xs) (variants_listed info vs)
+variants_listed info (v ∷ vs) = ap (λ xs. variant_form info 32 v.name_offset v.value ∷ xs) (variants_listed info vs)
 
-pub wide_variants_listed : (info : ℕ) (vs : List BtfEnum64) → wide_variants_in info (flat_map enum64_words vs) ≡ map (λ v. variant info 64 v.name_offset (v.value_high * 2 ^ 32 + v.value_low)) vs
+pub wide_variants_listed : (info : ℕ) (vs : List BtfEnum64) → wide_variant_forms info (flat_map enum64_words vs) ≡ map (λ v. variant_form info 64 v.name_offset (v.value_high * 2 ^ 32 + v.value_low)) vs
 wide_variants_listed info [] = refl
-wide_variants_listed info (v ∷ vs) = ap (λ xs. variant info 64 v.name_offset (v.value_high * 2 ^ 32 + v.value_low) ∷ xs) (wide_variants_listed info vs)
+wide_variants_listed info (v ∷ vs) = ap (λ xs. variant_form info 64 v.name_offset (v.value_high * 2 ^ 32 + v.value_low) ∷ xs) (wide_variants_listed info vs)
 
-pub params_listed : (ps : List BtfParam) → params_in (flat_map param_words ps) ≡ map (λ p. param p.name_offset p.btf_type) ps
+pub params_listed : (ps : List BtfParam) → param_forms (flat_map param_words ps) ≡ map (λ p. param_form p.name_offset p.btf_type) ps
 params_listed [] = refl
-params_listed (p ∷ ps) = ap (λ xs. param p.name_offset p.btf_type ∷ xs) (params_listed ps)
+params_listed (p ∷ ps) = ap (λ xs. param_form p.name_offset p.btf_type ∷ xs) (params_listed ps)
 
-pub entries_listed : (es : List DataSecEntry) → entries_in (flat_map code_entry_words es) ≡ map (λ e. entry e.btf_type e.offset e.size) es
+pub entries_listed : (es : List DataSecEntry) → entry_forms (flat_map code_entry_words es) ≡ map (λ e. entry_form e.btf_type e.offset e.size) es
 entries_listed [] = refl
-entries_listed (e ∷ es) = ap (λ xs. entry e.btf_type e.offset e.size ∷ xs) (entries_listed es)
+entries_listed (e ∷ es) = ap (λ xs. entry_form e.btf_type e.offset e.size ∷ xs) (entries_listed es)
 
 -- the items of the type of an id are written
 pub listed : {X : Type 0} (items_of : Kind → Record → Option (List X)) (records : List Record) (id : ℕ) (t u : BtfType) (xs ys old new : List X) (count : ℕ)

@@ -29,10 +29,11 @@ pub in_order : (order : ℕ) (endianness : Endianness) (types places : List ℕ)
 in_order order endianness types places records is h = subst (λ (e : Endianness). AreIndexed e types places records) (sym is) h
 
 -- a result of a search for the name and the kind that C passed
-pub looked_up : (strings : List ℕ) (records : List Record) (text name : List ℕ) (number : ℕ) (j k : Kind) (x : Lookup) → text ≡ name → slice_get kinds number ≡ Some j → slice_get kinds number ≡ Some k → LooksUp strings records j text x → LooksUp strings records k name x
-looked_up strings records text name number j k x same a b looked =
-    subst (λ (n : List ℕ). LooksUp strings records k n x) same
-    (subst (λ (i : Kind). LooksUp strings records i text x) (same_Some j k (sym a ∙ b)) looked)
+pub looked_up : (seen strings : List ℕ) (records : List Record) (text name : List ℕ) (number : ℕ) (j k : Kind) (x : Lookup) → seen ≡ strings → text ≡ name → slice_get kinds number ≡ Some j → slice_get kinds number ≡ Some k → LooksUp seen records j text x → LooksUp strings records k name x
+looked_up seen strings records text name number j k x at same a b looked =
+    subst (λ (s : List ℕ). LooksUp s records k name x) at
+    (subst (λ (n : List ℕ). LooksUp seen records k n x) same
+    (subst (λ (i : Kind). LooksUp seen records i text x) (same_Some j k (sym a ∙ b)) looked))
 
 -- ---- the parts of a view
 

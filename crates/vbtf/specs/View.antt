@@ -1,17 +1,19 @@
 -- The outcomes of the calls that read a blob by the places of its records.
-use Rattle.std.specs.Prelude.{◌≡◌, ◌⊎◌, ◌+◌, ◌*◌, ◌≤◌, ℕ, List, length, take, drop}
+use Rattle.std.specs.Prelude.{◌≡◌, ◌⊎◌, ◌+◌, ◌*◌, ◌≤◌, ℕ, List, length, take, Some, slice_get}
 use Rattle.btf_model.specs.declared.endianness.Endianness.{Endianness}
-use Rattle.btf_model.specs.Record.{Record}
+use Rattle.btf_model.specs.Record.{Kind, Record, kinds}
 use Rattle.btf_model.specs.Refusal.{Refusal}
 use Rattle.btf_model.specs.Table.{Table}
+use Rattle.btf_model.specs.Text.{FindsName}
+use Rattle.std.specs.Str.{IsUtf8}
 use Rattle.btf_model.specs.Blob.{IsRefusal, IsTable, header_of, slice}
 use Rattle.btf_table.specs.Readable.{IsReadableEnd}
-use Rattle.btf_view.specs.Forms.{ListsMembers}
-use Rattle.btf_view.specs.Places.{AreIndexed}
-use Rattle.btf_view.specs.declared.forms.Member.{Member}
+use Rattle.btf_view.specs.Places.{AreIndexed, ForRecords}
 use Rattle.btf_view.specs.declared.indexing.Sections.{Sections}
-use Rattle.vbtf.specs.Orders.{order_named, order_number}
-use Rattle.vbtf.specs.Status.{ReportsRefusal}
+use Rattle.btf_view.specs.View.{Shows}
+use Rattle.btf_view.specs.declared.view.View.{View}
+use Rattle.vbtf.specs.Orders.{order_chosen, order_named, order_number}
+use Rattle.vbtf.specs.Status.{EndsCall, ReportsRefusal}
 use Rattle.vbtf.specs.declared.fault.Fault.{Fault}
 use Rattle.vbtf.specs.declared.view.ViewParts.{ViewParts}
 
@@ -44,18 +46,28 @@ pub record IsView (order : Endianness) (bytes places : List ℕ) (parts : ViewPa
   pub count : parts.count ≤ length places
   pub places_are : AreIndexed order (slice parts.types_at parts.types_len bytes) (take parts.count places) table.records
 
--- The outcomes of indexing a blob: status 0 and the parts of a view; the first reason to refuse the bytes; or status
--- 100, and there are fewer places than a type section of this length may need.
-abbrev pub EndsIndexing : ℕ → Endianness → List ℕ → List ℕ → ViewParts → Fault → Type 0
-EndsIndexing status order bytes places parts fault =
-    ((status ≡ 0) × IsView order bytes places parts)
-    ⊎ ((refusal : Refusal) × ReportsRefusal status fault refusal × IsRefusal order bytes refusal)
-    ⊎ ((status ≡ 100) × (12 * length places ≤ (header_of order bytes).type_len))
+-- For the number of an order, the outcomes of indexing a blob: status 0 and the parts of a view; the first reason to
+-- refuse the bytes; or status 100, and there are fewer places than a type section of this length may need.
+abbrev pub EndsIndexingBlob : ℕ → ℕ → List ℕ → List ℕ → ViewParts → Fault → Type 0
+EndsIndexingBlob status order bytes places parts fault =
+    let o : Endianness = order_chosen order bytes in
+    order ≤ 2
+    → ((status ≡ 0) × IsView o bytes places parts)
+    ⊎ ((refusal : Refusal) × ReportsRefusal status fault refusal × IsRefusal o bytes refusal)
+    ⊎ ((status ≡ 100) × (12 * length places ≤ (header_of o bytes).type_len))
 
--- For one of the two orders, the call ends with status 0, and the buffers have the members of the types from an id on and
--- their numbers.
-abbrev pub EndsMembersFrom : ℕ → ℕ → List ℕ → List ℕ → ℕ → List ℕ → List ℕ → List Member → List Member → ℕ → ℕ
-    → Type 0
-EndsMembersFrom status order types places first old_counts counts old out done written =
-    order ≤ 1 → (status ≡ 0) × ((records : List Record) → AreIndexed (order_named order) types places records
-    → ListsMembers (drop first records) old_counts counts old out done written)
+-- For one of the two orders, P holds for the records at these places.
+abbrev pub ForPlaces : ℕ → List ℕ → List ℕ → (List Record → Type 0) → Type 0
+ForPlaces order types places P = order ≤ 1 → ForRecords (order_named order) types places P
+
+-- The view has these strings, and shows the records at these places in the order of the number.
+pub record IsViewIn (order : ℕ) (types strings places : List ℕ) (view : View) : Type 0 where
+  pub order_fits : order ≤ 1
+  pub strings_are : view.strings.now ≡ strings
+  pub shows : (records : List Record) → AreIndexed (order_named order) types places records → Shows view records
+
+-- For a name that is UTF-8 and the number of a kind, the call ends as the search for the name and the kind.
+abbrev pub EndsLookingUp : ℕ → List ℕ → List Record → ℕ → List ℕ → ℕ → Fault → Type 0
+EndsLookingUp status strings records kind name id fault =
+    IsUtf8 name → (k : Kind) → slice_get kinds kind ≡ Some k
+    → EndsCall status id fault (FindsName strings records k name)

@@ -3,8 +3,8 @@
 ghost use Rattle.std.specs.Prelude.{◌≡◌, ◌≢◌, ◌<◌, ◌+◌, ◌-◌, ◌^◌, length, take, drop, map, min};
 ghost use Rattle.btf_records.specs.BtfType.{record_of};
 ghost use Rattle.btf_view.specs.Many.{FillsResolved, FillsSizes, ResolvedOrMost, SizeOrMost};
-ghost use Rattle.btf_view.specs.Forms.{Begins, words_in};
-ghost use Rattle.vbtf.specs.Status.{KeepsHandle};
+ghost use Rattle.btf_view.specs.Forms.{Begins, words_in, ListsTypes};
+ghost use Rattle.vbtf.specs.Status.{KeepsHandle, IfLends};
 
 use crate::fault::CLOSED;
 use crate::handle::{Handle, take_loan};
@@ -24,9 +24,8 @@ pub extern "C" fn vbtf_lent_types(
     out: &mut [TypeWords],
     count: &mut u64,
 ) -> u32
-    ensures filled { table.old.state ≡ 2 → (result ≡ 0)
-        × Begins (take (length out.old) (drop first (map words_in table.old.opened.btf.records)))
-        out.old out.new count.new }
+    ensures filled { IfLends table.old (λ t. (result ≡ 0)
+        × ListsTypes t.records first out.old out.new count.new) }
     ensures closed { table.old.state ≢ 2 → (result ≡ CLOSED) × (out.new ≡ out.old) }
     ensures kept { KeepsHandle table.old table.new }
 {
@@ -40,8 +39,7 @@ pub extern "C" fn vbtf_lent_types(
 
 /// Writes the first words of the types from an id on, as many as fit, and returns their number.
 fn fill_types(table: &Btf, first: u32, out: &mut [TypeWords]) -> u64
-    ensures { Begins (take (length out.old) (drop first (map words_in table.now.records)))
-        out.old out.new result }
+    ensures { ListsTypes table.now.records first out.old out.new result }
 {
     let types = table.types().as_slice();
     match types.get(first as usize..) {

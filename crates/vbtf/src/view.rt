@@ -1,28 +1,29 @@
 //! Views of tables that are only read: a caller has the blob, and an array with the place of each record.
 //!
-//! `vbtf_raw_view_index` fills the places. The other calls read the two sections of the blob by them, allocate nothing, and
-//! use no handle, so that any number of threads can make them at the same time. They end for all places; what they
+//! `vbtf_raw_view_index` fills the places. The other calls read the two sections of the blob by them, allocate nothing,
+//! and use no handle, so that any number of threads can make them at the same time. They end for all places; what they
 //! return is that of the table if the places are those that `vbtf_raw_view_index` wrote for the same blob.
 
-ghost use Rattle.std.specs.Prelude.{◌≡◌, ◌+◌, ◌<◌, ◌≤◌, List, None, Some, drop, length, map, slice_get, take};
+ghost use Rattle.std.specs.Prelude.{◌≡◌, ◌+◌, ◌<◌, ◌≤◌, None, length, slice_get};
+ghost use Rattle.std.specs.Option.{MatchOption};
 ghost use Rattle.std.specs.Str.{IsUtf8};
-ghost use Rattle.btf_model.specs.Record.{Kind, Record, kinds};
+ghost use Rattle.btf_model.specs.Record.{kinds};
 ghost use Rattle.btf_model.specs.Refusal.{UnknownBtfTypeName};
-ghost use Rattle.btf_model.specs.Text.{FindsName};
 ghost use Rattle.btf_model.specs.Walk.{HasSize, Resolves};
-ghost use Rattle.btf_table.specs.Readable.{IsComparable};
-ghost use Rattle.btf_view.specs.Forms.{Begins, MembersOf, words_in};
+ghost use Rattle.btf_view.specs.Forms.{ListsTypes};
+ghost use Rattle.btf_view.specs.Items.{ItemsOf, ListsMembersFrom, entries, members, params, variants};
 ghost use Rattle.btf_view.specs.Many.{FillsResolved, FillsSizes};
-ghost use Rattle.btf_view.specs.Places.{AreIndexed};
 ghost use Rattle.vbtf.specs.Lists.{EndsListing};
-ghost use Rattle.vbtf.specs.Orders.{order_chosen, order_named};
 ghost use Rattle.vbtf.specs.Status.{EndsCall, ReportsRefusal};
-ghost use Rattle.vbtf.specs.View.{EndsIndexing, EndsMembersFrom, IsViewOf};
+ghost use Rattle.vbtf.specs.View.{EndsLookingUp, EndsIndexingBlob, ForPlaces, IsViewIn, IsViewOf};
 
 use crate::fault::{Fault, INVALID_ARGUMENT, NAME_ROOM, NO_ROOM, report, write};
 use crate::orders::{choose_order, number_of, order_of};
 use btf_plain::{BtfError, BtfKind};
-use btf_view::{Lookup, Member, Sections, TypeWords, Unindexed, View, index, readable_end};
+use btf_view::{
+    Entry, Lookup, Member, Param, Sections, TypeWords, Unindexed, Variant, View, index,
+    readable_end,
+};
 
 /// What a blob has: its byte order, its header's values, where its sections are, and the number of its types.
 #[repr(C)]
@@ -64,8 +65,7 @@ pub extern "C" fn vbtf_raw_view_index(
     parts: &mut ViewParts,
     fault: &mut Fault,
 ) -> u32
-    ensures indexed { order ≤ 2 → EndsIndexing result (order_chosen order «data».now)
-        «data».now places.new parts.new fault.new }
+    ensures indexed { EndsIndexingBlob result order «data».now places.new parts.new fault.new }
     ensures order { 2 < order → (result ≡ INVALID_ARGUMENT) × (parts.new ≡ parts.old) }
 {
     let Some(endianness) = choose_order(order, data) else {
@@ -101,6 +101,27 @@ fn parts_of(data: &[u8], order: u32, sections: &Sections) -> ViewParts
     }
 }
 
+/// The view of two sections by the places of the records, in the order of a number. None if the number is not 0 or 1.
+fn view_in<'a>(
+    types: &'a [u8],
+    strings: &'a [u8],
+    places: &'a [u32],
+    order: u32,
+) -> Option<View<'a>>
+    ensures { MatchOption result (1 < order)
+        (λ view. IsViewIn order types.now strings.now places.now view) }
+{
+    let Some(endianness) = order_of(order) else {
+        return None;
+    };
+    Some(View {
+        endianness,
+        types,
+        strings,
+        places,
+    })
+}
+
 /// Writes the first words of the types from an id on, in the order of the ids, to a buffer: as many as there are and as
 /// fit. Their number goes to `count`; it is 0 if no type has the id.
 ///
@@ -114,20 +135,13 @@ pub extern "C" fn vbtf_raw_view_types(
     out: &mut [TypeWords],
     count: &mut u64,
 ) -> u32
-    ensures filled { order ≤ 1 → (result ≡ 0) × ((records : List Record)
-        → AreIndexed (order_named order) types.now places.now records
-        → Begins (take (length out.old) (drop first (map words_in records)))
-        out.old out.new count.new) }
+    ensures status { order ≤ 1 → result ≡ 0 }
+    ensures filled { ForPlaces order types.now places.now
+        (λ records. ListsTypes records first out.old out.new count.new) }
     ensures order { 1 < order → (result ≡ INVALID_ARGUMENT) × (out.new ≡ out.old) }
 {
-    let Some(endianness) = order_of(order) else {
+    let Some(view) = view_in(types, &[], places, order) else {
         return INVALID_ARGUMENT;
-    };
-    let view = View {
-        endianness,
-        types,
-        strings: &[],
-        places,
     };
     *count = view.types(first, out) as u64;
     0
@@ -147,19 +161,13 @@ pub extern "C" fn vbtf_raw_view_sizes(
     out: &mut [u64],
     count: &mut u64,
 ) -> u32
-    ensures filled { order ≤ 1 → (result ≡ 0) × ((records : List Record)
-        → AreIndexed (order_named order) types.now places.now records
-        → FillsSizes records first out.old out.new count.new) }
+    ensures status { order ≤ 1 → result ≡ 0 }
+    ensures filled { ForPlaces order types.now places.now
+        (λ records. FillsSizes records first out.old out.new count.new) }
     ensures order { 1 < order → (result ≡ INVALID_ARGUMENT) × (out.new ≡ out.old) }
 {
-    let Some(endianness) = order_of(order) else {
+    let Some(view) = view_in(types, &[], places, order) else {
         return INVALID_ARGUMENT;
-    };
-    let view = View {
-        endianness,
-        types,
-        strings: &[],
-        places,
     };
     *count = view.sizes(first, out) as u64;
     0
@@ -179,19 +187,13 @@ pub extern "C" fn vbtf_raw_view_resolved(
     out: &mut [u32],
     count: &mut u64,
 ) -> u32
-    ensures filled { order ≤ 1 → (result ≡ 0) × ((records : List Record)
-        → AreIndexed (order_named order) types.now places.now records
-        → FillsResolved records first out.old out.new count.new) }
+    ensures status { order ≤ 1 → result ≡ 0 }
+    ensures filled { ForPlaces order types.now places.now
+        (λ records. FillsResolved records first out.old out.new count.new) }
     ensures order { 1 < order → (result ≡ INVALID_ARGUMENT) × (out.new ≡ out.old) }
 {
-    let Some(endianness) = order_of(order) else {
+    let Some(view) = view_in(types, &[], places, order) else {
         return INVALID_ARGUMENT;
-    };
-    let view = View {
-        endianness,
-        types,
-        strings: &[],
-        places,
     };
     *count = view.resolved(first, out) as u64;
     0
@@ -209,19 +211,12 @@ pub extern "C" fn vbtf_raw_view_size(
     size: &mut u64,
     fault: &mut Fault,
 ) -> u32
-    ensures sized { order ≤ 1 → (records : List Record)
-        → AreIndexed (order_named order) types.now places.now records
-        → EndsCall result size.new fault.new (HasSize records id) }
+    ensures sized { ForPlaces order types.now places.now
+        (λ records. EndsCall result size.new fault.new (HasSize records id)) }
     ensures order { 1 < order → result ≡ INVALID_ARGUMENT }
 {
-    let Some(endianness) = order_of(order) else {
+    let Some(view) = view_in(types, &[], places, order) else {
         return INVALID_ARGUMENT;
-    };
-    let view = View {
-        endianness,
-        types,
-        strings: &[],
-        places,
     };
     match view.size(id) {
         Ok(found) => {
@@ -244,19 +239,12 @@ pub extern "C" fn vbtf_raw_view_resolve(
     to: &mut u32,
     fault: &mut Fault,
 ) -> u32
-    ensures resolved { order ≤ 1 → (records : List Record)
-        → AreIndexed (order_named order) types.now places.now records
-        → EndsCall result to.new fault.new (Resolves records id) }
+    ensures resolved { ForPlaces order types.now places.now
+        (λ records. EndsCall result to.new fault.new (Resolves records id)) }
     ensures order { 1 < order → result ≡ INVALID_ARGUMENT }
 {
-    let Some(endianness) = order_of(order) else {
+    let Some(view) = view_in(types, &[], places, order) else {
         return INVALID_ARGUMENT;
-    };
-    let view = View {
-        endianness,
-        types,
-        strings: &[],
-        places,
     };
     match view.resolve(id) {
         Ok(found) => {
@@ -282,19 +270,12 @@ pub extern "C" fn vbtf_raw_view_members(
     count: &mut u64,
     fault: &mut Fault,
 ) -> u32
-    ensures listed { order ≤ 1 → (records : List Record)
-        → AreIndexed (order_named order) types.now places.now records
-        → EndsListing result out.old out.new count.new fault.new (MembersOf records id) }
+    ensures listed { ForPlaces order types.now places.now (λ rs.
+        EndsListing result out.old out.new count.new fault.new (ItemsOf members rs id)) }
     ensures order { 1 < order → (result ≡ INVALID_ARGUMENT) × (out.new ≡ out.old) }
 {
-    let Some(endianness) = order_of(order) else {
+    let Some(view) = view_in(types, &[], places, order) else {
         return INVALID_ARGUMENT;
-    };
-    let view = View {
-        endianness,
-        types,
-        strings: &[],
-        places,
     };
     match view.members(id, out) {
         Ok(written) => {
@@ -305,9 +286,99 @@ pub extern "C" fn vbtf_raw_view_members(
     }
 }
 
-/// Writes the members of the types from an id on to `out`, type after type, and the number of the members of each type to
-/// `counts`, 0 for a type that is no STRUCT or UNION. It stops before the first type that has no place in `counts` or whose
-/// members do not all fit. The number of types goes to `done`, and the number of members to `written`.
+/// Writes the variants of an ENUM or ENUM64 to a buffer, as `vbtf_raw_view_members` writes the members.
+///
+/// Status 9 if no type has the id, 10 if its type has another kind, and 102 if the order is not 0 or 1. After an error
+/// the buffer is unchanged.
+#[unsafe(no_mangle)]
+pub extern "C" fn vbtf_raw_view_variants(
+    types: &[u8],
+    places: &[u32],
+    order: u32,
+    id: u32,
+    out: &mut [Variant],
+    count: &mut u64,
+    fault: &mut Fault,
+) -> u32
+    ensures listed { ForPlaces order types.now places.now (λ rs.
+        EndsListing result out.old out.new count.new fault.new (ItemsOf variants rs id)) }
+    ensures order { 1 < order → (result ≡ INVALID_ARGUMENT) × (out.new ≡ out.old) }
+{
+    let Some(view) = view_in(types, &[], places, order) else {
+        return INVALID_ARGUMENT;
+    };
+    match view.variants(id, out) {
+        Ok(written) => {
+            *count = written as u64;
+            0
+        }
+        Err(error) => report(error, fault),
+    }
+}
+
+/// Writes the parameters of a FUNC_PROTO to a buffer, as `vbtf_raw_view_members` writes the members.
+///
+/// Status 9 if no type has the id, 10 if its type has another kind, and 102 if the order is not 0 or 1. After an error
+/// the buffer is unchanged.
+#[unsafe(no_mangle)]
+pub extern "C" fn vbtf_raw_view_params(
+    types: &[u8],
+    places: &[u32],
+    order: u32,
+    id: u32,
+    out: &mut [Param],
+    count: &mut u64,
+    fault: &mut Fault,
+) -> u32
+    ensures listed { ForPlaces order types.now places.now (λ rs.
+        EndsListing result out.old out.new count.new fault.new (ItemsOf params rs id)) }
+    ensures order { 1 < order → (result ≡ INVALID_ARGUMENT) × (out.new ≡ out.old) }
+{
+    let Some(view) = view_in(types, &[], places, order) else {
+        return INVALID_ARGUMENT;
+    };
+    match view.params(id, out) {
+        Ok(written) => {
+            *count = written as u64;
+            0
+        }
+        Err(error) => report(error, fault),
+    }
+}
+
+/// Writes the entries of a DATASEC to a buffer, as `vbtf_raw_view_members` writes the members.
+///
+/// Status 9 if no type has the id, 10 if its type has another kind, and 102 if the order is not 0 or 1. After an error
+/// the buffer is unchanged.
+#[unsafe(no_mangle)]
+pub extern "C" fn vbtf_raw_view_entries(
+    types: &[u8],
+    places: &[u32],
+    order: u32,
+    id: u32,
+    out: &mut [Entry],
+    count: &mut u64,
+    fault: &mut Fault,
+) -> u32
+    ensures listed { ForPlaces order types.now places.now (λ rs.
+        EndsListing result out.old out.new count.new fault.new (ItemsOf entries rs id)) }
+    ensures order { 1 < order → (result ≡ INVALID_ARGUMENT) × (out.new ≡ out.old) }
+{
+    let Some(view) = view_in(types, &[], places, order) else {
+        return INVALID_ARGUMENT;
+    };
+    match view.entries(id, out) {
+        Ok(written) => {
+            *count = written as u64;
+            0
+        }
+        Err(error) => report(error, fault),
+    }
+}
+
+/// Writes the members of the types from an id on to `out`, type after type, and the number of the members of each type
+/// to `counts`, 0 for a type that is no STRUCT or UNION. It stops before the first type that has no place in `counts`
+/// or whose members do not all fit. The number of types goes to `done`, and the number of members to `written`.
 ///
 /// Status 102 if the order is not 0 or 1; the buffers are then unchanged.
 #[unsafe(no_mangle)]
@@ -321,19 +392,14 @@ pub extern "C" fn vbtf_raw_view_members_from(
     done: &mut u64,
     written: &mut u64,
 ) -> u32
-    ensures listed { EndsMembersFrom result order types.now places.now first counts.old counts.new
-        out.old out.new done.new written.new }
-    ensures order { 1 < order → (result ≡ INVALID_ARGUMENT) × (counts.new ≡ counts.old)
-        × (out.new ≡ out.old) }
+    ensures status { order ≤ 1 → result ≡ 0 }
+    ensures lists { ForPlaces order types.now places.now (λ rs. ListsMembersFrom
+        rs first counts.old counts.new out.old out.new (done.new, written.new)) }
+    ensures order { 1 < order → result ≡ INVALID_ARGUMENT }
+    ensures unchanged { 1 < order → (counts.new ≡ counts.old) × (out.new ≡ out.old) }
 {
-    let Some(endianness) = order_of(order) else {
+    let Some(view) = view_in(types, &[], places, order) else {
         return INVALID_ARGUMENT;
-    };
-    let view = View {
-        endianness,
-        types,
-        strings: &[],
-        places,
     };
     let (records, members) = view.members_from(first, counts, out);
     *done = records as u64;
@@ -345,8 +411,7 @@ pub extern "C" fn vbtf_raw_view_members_from(
 /// its end.
 ///
 /// Status 6 if a type of the kind with a lower id has a name that cannot be read, 11 if no type has the kind and the
-/// name, and 102 if the order is not 0 or 1, no kind has the number, or the name is not UTF-8 or has a zero byte or a
-/// byte 0xEF.
+/// name, and 102 if the order is not 0 or 1, no kind has the number, or the name is not UTF-8.
 #[unsafe(no_mangle)]
 pub extern "C" fn vbtf_raw_view_find(
     types: &[u8],
@@ -358,22 +423,14 @@ pub extern "C" fn vbtf_raw_view_find(
     id: &mut u32,
     fault: &mut Fault,
 ) -> u32
-    ensures found { order ≤ 1 → IsUtf8 name.now → IsComparable name.now → (k : Kind)
-        → slice_get kinds kind ≡ Some k → (records : List Record)
-        → AreIndexed (order_named order) types.now places.now records
-        → EndsCall result id.new fault.new (FindsName strings.now records k name.now) }
+    ensures found { ForPlaces order types.now places.now (λ records.
+        EndsLookingUp result strings.now records kind name.now id.new fault.new) }
     ensures not_utf8 { (IsUtf8 name.now → ⊥) → result ≡ INVALID_ARGUMENT }
     ensures no_kind { slice_get kinds kind ≡ None → result ≡ INVALID_ARGUMENT }
     ensures order { 1 < order → result ≡ INVALID_ARGUMENT }
 {
-    let Some(endianness) = order_of(order) else {
+    let Some(view) = view_in(types, strings, places, order) else {
         return INVALID_ARGUMENT;
-    };
-    let view = View {
-        endianness,
-        types,
-        strings,
-        places,
     };
     let Ok(text) = str::from_utf8(name) else {
         return INVALID_ARGUMENT;
@@ -391,7 +448,6 @@ pub extern "C" fn vbtf_raw_view_find(
             let offset = offset as usize;
             report(BtfError::InvalidStringOffset { offset }, fault)
         }
-        Lookup::Incomparable => INVALID_ARGUMENT,
     }
 }
 

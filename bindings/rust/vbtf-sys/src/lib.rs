@@ -421,6 +421,42 @@ extern "C" {
         count: *mut u64,
         error: *mut vbtf_error,
     ) -> u32;
+    pub fn vbtf_raw_view_variants(
+        types: *const u8,
+        types_len: usize,
+        places: *const u32,
+        places_len: usize,
+        order: u32,
+        id: u32,
+        out: *mut vbtf_variant,
+        room: usize,
+        count: *mut u64,
+        error: *mut vbtf_error,
+    ) -> u32;
+    pub fn vbtf_raw_view_params(
+        types: *const u8,
+        types_len: usize,
+        places: *const u32,
+        places_len: usize,
+        order: u32,
+        id: u32,
+        out: *mut vbtf_param,
+        room: usize,
+        count: *mut u64,
+        error: *mut vbtf_error,
+    ) -> u32;
+    pub fn vbtf_raw_view_entries(
+        types: *const u8,
+        types_len: usize,
+        places: *const u32,
+        places_len: usize,
+        order: u32,
+        id: u32,
+        out: *mut vbtf_entry,
+        room: usize,
+        count: *mut u64,
+        error: *mut vbtf_error,
+    ) -> u32;
     pub fn vbtf_raw_view_members_from(
         types: *const u8,
         types_len: usize,

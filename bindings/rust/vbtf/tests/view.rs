@@ -1,6 +1,6 @@
 //! A view of bytes has the values of a table of the same bytes.
 
-use vbtf::{Endianness, Error, Kind, Table, View};
+use vbtf::{Endianness, Kind, Table, View};
 
 /// The table of a kernel's types of `crates/btf_examples`.
 fn kernel() -> Vec<u8> {
@@ -27,9 +27,24 @@ fn each_type_is_that_of_the_table() {
         assert_eq!(view.resolve_type(id), table.resolve_type(id));
         let members = one.members().map(|members| members.collect::<Vec<_>>());
         assert_eq!(view.members(id).ok(), members);
+        assert_eq!(view.variants(id).ok(), one.variants().map(|it| it.collect::<Vec<_>>()));
+        assert_eq!(view.params(id).ok(), one.params().map(|it| it.collect::<Vec<_>>()));
+        assert_eq!(view.entries(id).ok(), one.entries().map(|it| it.collect::<Vec<_>>()));
     }
     assert_eq!(view.type_sizes(0..9), table.type_sizes(0..9));
     assert_eq!(view.resolved_types(3..u32::MAX), table.resolved_types(3..u32::MAX));
+}
+
+#[test]
+fn members_of_many_types_are_those_of_each() {
+    let bytes = kernel();
+    let view = View::parse_by_magic(&bytes).unwrap();
+    let all = 0..view.type_count();
+    let (counts, members) = view.members_from(0..u32::MAX);
+    let each: Vec<_> = all.map(|id| view.members(id).unwrap_or_default()).collect();
+    assert_eq!(counts, each.iter().map(|it| it.len() as u32).collect::<Vec<_>>());
+    assert_eq!(members, each.concat());
+    assert_eq!(view.members_from(view.type_count()..u32::MAX), (vec![], vec![]));
 }
 
 #[test]
@@ -42,7 +57,12 @@ fn names_are_found_and_read_as_in_the_table() {
     {
         assert_eq!(view.id_by_type_name_kind(name, kind), table.id_by_type_name_kind(name, kind));
     }
-    assert_eq!(view.id_by_type_name_kind("\u{ffff}", Kind::Int), Err(Error::InvalidArgument));
+    for name in ["\u{ffff}", "\u{fffd}", "int\0"] {
+        assert_eq!(
+            view.id_by_type_name_kind(name, Kind::Int),
+            table.id_by_type_name_kind(name, Kind::Int)
+        );
+    }
     for offset in (0..64).chain([table.string_len() - 1, table.string_len(), u32::MAX]) {
         assert_eq!(view.bytes_at(offset), table.bytes_at(offset).ok());
     }

@@ -1,10 +1,10 @@
-use Rattle.std.proofs.Common.{◌≡◌, ◌∙◌, ◌<◌, ◌≤◌, ◌+◌, ℕ, Some, length, min, get_or, inl, inr, sym, ap, subst, arith}
+use Rattle.std.proofs.Common.{◌≡◌, ◌∙◌, ◌<◌, ℕ, Some, length, min, get_or, inl, inr, sym, ap, subst, arith}
 use Rattle.std.specs.Prelude.{map}
 use Rattle.std.specs.Option.{option_map}
 use Rattle.std.proofs.Math.Nat.{min-le_left, min-le_right}
 use Rattle.std.proofs.lemmas.Option.{slice_get-get_or, slice_get-map}
 use Rattle.btf_model.specs.Record.{Record}
-use Rattle.btf_view.specs.Forms.{members_of}
+use Rattle.btf_view.specs.Items.{members_or_none}
 use Rattle.btf_view.proofs.Appended.{AreAppended, members_listed_to, one_appended}
 use Rattle.btf_view.proofs.Fills.{Written, one_written}
 use Rattle.btf_view.proofs.Places.{placed, as_many_places}
@@ -17,7 +17,7 @@ loop-index-preserved c = (
       let i = c.loop-index.index in
       let places = c.args.places.now in
       let counts = c.args.counts.now in
-      let number : Record → ℕ = λ r. length (members_of r) in
+      let number : Record → ℕ = λ r. length (members_or_none r) in
       let low : i < length places = omega (arith, c.loop-index-test.true, c.min-records.ensures, min-le_right (length counts) (length places)) in
       let room : i < length c.loop-index.counts = omega (arith, c.loop-index-test.true, c.loop-index.auto.counts, c.min-records.ensures, min-le_left (length counts) (length places)) in
       let found = placed c.args.endianness c.args.types.now places rs i (get_or places i 0) h (slice_get-get_or places i 0 low) in
@@ -53,6 +53,6 @@ returns c rs h =
     let there = c.loop-index.invariant.1 rs h in
     members_listed_to rs counts c.loop-index.counts c.args.out.now c.loop-index.out k c.loop-index.written
     (omega (arith, c.min-records.ensures, min-le_right (length counts) (length places), many))
-    (subst (Written (map (λ r. length (members_of r)) rs) counts c.loop-index.counts) end there.0)
+    (subst (Written (map (λ r. length (members_or_none r)) rs) counts c.loop-index.counts) end there.0)
     (subst (λ n. AreAppended rs c.args.out.now c.loop-index.out n c.loop-index.written) end there.1)
     (inl (c.min-records.ensures ∙ ap (min (length counts)) many))

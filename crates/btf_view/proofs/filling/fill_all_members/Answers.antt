@@ -1,7 +1,7 @@
-use Rattle.std.proofs.Common.{◌≡◌, ◌∙◌, ◌-◌, List, [], length, min, drop, inl, inr, refl, sym, ap, subst, arith}
+use Rattle.std.proofs.Common.{◌≡◌, ◌∙◌, ◌-◌, List, [], length, drop, inl, inr, sym, subst, arith}
 use Rattle.std.proofs.lemmas.List.{length-drop, nil_from_length, take_all}
 use Rattle.btf_model.specs.Record.{Record}
-use Rattle.btf_view.specs.Forms.{ListsMembers}
+use Rattle.btf_view.specs.Items.{ListsMembers}
 use Rattle.btf_view.proofs.Appended.{nothing_listed}
 use Rattle.btf_view.proofs.Places.{as_many_places, places_after}
 use Rattle.btf_view.proofs.filling.fill_all_members.Goals as goal

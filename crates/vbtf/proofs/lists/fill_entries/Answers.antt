@@ -1,6 +1,6 @@
 use Rattle.std.proofs.Common.{◌∙◌, ap, refl}
 use Rattle.btf_records.specs.declared.btf_type.BtfType.TheVariants as types
-use Rattle.vbtf.specs.Lists.{entries, entries_in}
+use Rattle.btf_view.specs.Items.{entries, entry_forms}
 use Rattle.vbtf.proofs.Listing.{entries_listed, listed, no_entries, unexpected, unknown}
 use Rattle.vbtf.proofs.lists.fill_entries.Goals as goal
 
@@ -11,9 +11,9 @@ returns-in_err-t c =
 pub returns-in-DataSec : goal.returns-in-DataSec
 returns-in-DataSec c =
     let t = c.in-DataSec.t in let xs = c.entries.result.now in
-    listed entries c.args.table.now.records c.args.id c.in_ok-t.field-0.now (types.DataSec t) (entries_in t.tail) _ c.args.out.now c.fill_forms.new.out c.fill_forms.result
+    listed entries c.args.table.now.records c.args.id c.in_ok-t.field-0.now (types.DataSec t) (entry_forms t.tail) _ c.args.out.now c.fill_forms.new.out c.fill_forms.result
     c.in_ok-t.ensures.record_is c.in_ok-t.ensures.kind_is c.in-DataSec.is refl
-    (ap entries_in c.entries.ensures.words ∙ entries_listed xs)
+    (ap entry_forms c.entries.ensures.words ∙ entries_listed xs)
     c.fill_forms.ensures
 
 pub returns-in_default : goal.returns-in_default
