@@ -2,7 +2,6 @@
 
 use crate::error::TextError;
 use crate::header::identifier::{add_escaped, is_identifier, is_number_name};
-use crate::header::spelling::Spelling;
 use crate::header::uses::{Naming, Tag, Uses};
 use crate::word::{text_at, text_or_empty};
 use btf_records::BtfType;
@@ -152,34 +151,34 @@ impl Names {
             _ => {}
         }
         let btf_type = table.type_by_id(type_id)?;
-        let number = self.count_type(table, btf_type)?;
+        let is_tag = !matches!(btf_type, BtfType::Typedef(_));
+        let number = self.count(table, btf_type.name_offset(), naming_of(btf_type), is_tag)?;
         if let Some(name) = self.types.get_mut(type_id as usize) {
             name.number = number;
         }
         Ok(number)
     }
 
-    /// Counts a use of the name of a type, and returns its number.
-    fn count_type(&mut self, table: &Btf, btf_type: &BtfType) -> Result<u32, TextError> {
-        let naming = naming_of(btf_type);
-        let name_offset = btf_type.name_offset();
+    /// Counts a use of the name at a string offset, and returns its number. A tag is a name after `struct`, `union` or
+    /// `enum`.
+    fn count(
+        &mut self,
+        table: &Btf,
+        name_offset: u32,
+        naming: Naming,
+        is_tag: bool,
+    ) -> Result<u32, TextError> {
         let read = text_at(table, name_offset)?;
         let text = text_or_empty(&read);
         let is_plain = is_identifier(text);
         if !is_plain {
             self.escape(text)?;
         }
-        let written = if is_plain {
-            text
+        let written = written_of(text, self.escaped.as_str(), is_plain);
+        if is_tag {
+            self.tags.count(table, name_offset, written, naming)
         } else {
-            self.escaped.as_str()
-        };
-        let spelling = Spelling::new(written, Some(name_offset));
-        if matches!(btf_type, BtfType::Typedef(_)) {
-            self.identifiers
-                .count(table, name_offset, &spelling, naming)
-        } else {
-            self.tags.count(table, name_offset, &spelling, naming)
+            self.identifiers.count(table, name_offset, written, naming)
         }
     }
 
@@ -190,23 +189,10 @@ impl Names {
         name_offset: u32,
         out: &mut W,
     ) -> Result<(), TextError> {
-        let read = text_at(table, name_offset)?;
-        let text = text_or_empty(&read);
-        let is_plain = is_identifier(text);
-        if !is_plain {
-            self.escape(text)?;
-        }
-        let written = if is_plain {
-            text
-        } else {
-            self.escaped.as_str()
-        };
-        let spelling = Spelling::new(written, Some(name_offset));
         let naming = Naming::defined(Tag::Other);
-        let number = self
-            .identifiers
-            .count(table, name_offset, &spelling, naming)?;
-        out.write_str(spelling.text)?;
+        let number = self.count(table, name_offset, naming, false)?;
+        let read = text_at(table, name_offset)?;
+        self.write_plain(text_or_empty(&read), out)?;
         write_number(number, out)
     }
 
@@ -226,6 +212,11 @@ impl Names {
         self.escaped.clear();
         add_escaped(&mut self.escaped, text)
     }
+}
+
+/// The spelling of a text: the text itself if it is an identifier, and else this escaped one.
+fn written_of<'a>(text: &'a str, escaped: &'a str, is_plain: bool) -> &'a str {
+    if is_plain { text } else { escaped }
 }
 
 /// Writes the number after a name; nothing for the first type of the name.

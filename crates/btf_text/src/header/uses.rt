@@ -94,19 +94,20 @@ impl Uses {
         }
     }
 
-    /// Counts a use of the name at a string offset, and returns its number. A type that is only declared has the same
-    /// number as the first one of its tag.
+    /// Counts a use of the name at a string offset, which is written as this text, and returns its number. A type that is
+    /// only declared has the same number as the first one of its tag.
     pub fn count(
         &mut self,
         table: &Btf,
         name_offset: u32,
-        name: &Spelling<'_>,
+        text: &str,
         naming: Naming,
     ) -> Result<u32, TextError> {
-        let place = self.find(table, name)?;
+        let name = Spelling::new(text, Some(name_offset));
+        let place = self.find(table, &name)?;
         match place.known {
-            Some(known) => self.count_again(table, place, known, name, naming),
-            None => self.count_first(table, place, name_offset, name, naming),
+            Some(known) => self.count_again(table, place, known, &name, naming),
+            None => self.count_first(table, place, name_offset, &name, naming),
         }
     }
 
