@@ -8,10 +8,11 @@ mod identifier;
 mod members;
 mod names;
 mod needed;
-mod number;
 mod padding;
 mod params;
+mod spelling;
 mod task;
+mod uses;
 mod walk;
 
 use crate::error::TextError;
@@ -60,8 +61,8 @@ pub enum HeaderTypes<'a> {
 /// - `UnexpectedBtfType` of a type to which a declaration refers and which is no type of C, such as a FUNC;
 ///
 /// and `TooLong` if types without a name are used too often or gaps are too large, `Write` if the writer fails, and
-/// `OutOfMemory`. Memory is linear in the records of the table and in the names that are written, and time in the records
-/// and in the text, times the logarithm of the number of names.
+/// `OutOfMemory`. Memory is linear in the records of the table and in its longest name. Time is linear in the records and
+/// in the text, times the logarithm of the number of names.
 pub fn write_header<W: Write>(
     alloc: Global,
     table: &Btf,

@@ -4,7 +4,6 @@ use crate::error::TextError;
 use crate::header::draft::Draft;
 use crate::header::enumeration::write_enumeration;
 use crate::header::members::begin_members;
-use crate::header::number::write_number_type;
 use crate::header::params::Params;
 use crate::header::task::{Declaration, Label, Task};
 use crate::layout::keyword;
@@ -16,7 +15,7 @@ use std::fmt::Write;
 
 /// The base of a type: the type inside its pointers, arrays, prototypes and modifiers.
 #[derive(Clone, Copy)]
-struct Base<'a> {
+pub struct Base<'a> {
     type_id: u32,
     btf_type: &'a BtfType,
 }
@@ -39,7 +38,10 @@ fn inner_of(btf_type: &BtfType) -> Option<u32> {
 ///
 /// The errors are `Table` with `UnknownBtfType` of an unknown id, `Table` with `MaximumTypeDepthReached` if the first 32
 /// types refer to another one, and `OutOfMemory`.
-fn read_chain<'a, W: Write>(draft: &mut Draft<'a, W>, type_id: u32) -> Result<Base<'a>, TextError> {
+pub fn read_chain<'a, W: Write>(
+    draft: &mut Draft<'a, W>,
+    type_id: u32,
+) -> Result<Base<'a>, TextError> {
     let table = draft.table;
     let mut base = type_id;
     draft.chain.clear();
@@ -65,12 +67,32 @@ pub fn write_declaration<'a, W: Write>(
     declaration: &Declaration,
 ) -> Result<(), TextError> {
     let base = read_chain(draft, declaration.type_id)?;
+    write_around(draft, &base, declaration)
+}
+
+/// Whether a declaration is written without tasks: its chain, which the draft has, has no array or prototype, and its
+/// base is no STRUCT or UNION without a name.
+pub fn has_no_tasks<W: Write>(draft: &Draft<'_, W>, base: &Base<'_>) -> bool {
+    for link in &draft.chain {
+        if matches!(link, BtfType::Array(_) | BtfType::FuncProto(_)) {
+            return false;
+        }
+    }
+    !base.btf_type.is_composite() || base.btf_type.name_offset() != 0
+}
+
+/// Writes a declaration whose chain the draft has, around its base.
+pub fn write_around<'a, W: Write>(
+    draft: &mut Draft<'a, W>,
+    base: &Base<'a>,
+    declaration: &Declaration,
+) -> Result<(), TextError> {
     write_qualifiers(draft)?;
     if base.btf_type.is_composite() && base.btf_type.name_offset() == 0 {
         draft.tasks.push(Task::AfterBase(*declaration))?;
         return begin_members(draft, base.type_id, base.btf_type, declaration.level);
     }
-    write_base(draft, &base, declaration.level)?;
+    write_base(draft, base, declaration.level)?;
     write_chain(draft, declaration)
 }
 
@@ -149,8 +171,7 @@ fn write_base<W: Write>(
     let type_id = base.type_id;
     match base.btf_type {
         BtfType::Unknown => draft.out.write_str("void")?,
-        BtfType::Int(t) => write_number_type(draft, t.name_offset())?,
-        BtfType::Float(t) => write_number_type(draft, t.name_offset())?,
+        BtfType::Int(_) | BtfType::Float(_) => draft.write_number_type(type_id)?,
         BtfType::Typedef(_) => draft.write_type_name(type_id)?,
         BtfType::Enum(_) | BtfType::Enum64(_) if base.btf_type.name_offset() == 0 => {
             write_enumeration(draft, type_id, base.btf_type, level)?;
@@ -304,14 +325,38 @@ fn write_label<W: Write>(
     label: Label,
     is_after_pointer: bool,
 ) -> Result<(), TextError> {
-    if is_empty(draft.table, label)? {
+    match label {
+        Label::Item(0) => Ok(()),
+        Label::Item(name_offset) => write_item_name(draft, name_offset, is_after_pointer),
+        Label::Typedef(type_id) => {
+            write_space(draft, is_after_pointer)?;
+            draft.write_type_name(type_id)
+        }
+    }
+}
+
+/// Writes the name of a member or a parameter if it has one, with a space before it where one is needed.
+fn write_item_name<W: Write>(
+    draft: &mut Draft<'_, W>,
+    name_offset: u32,
+    is_after_pointer: bool,
+) -> Result<(), TextError> {
+    let read = text_at(draft.table, name_offset)?;
+    let text = text_or_empty(&read);
+    if text.is_empty() {
         return Ok(());
     }
+    write_space(draft, is_after_pointer)?;
+    draft.write_name(text)
+}
+
+/// Writes the space before a name, unless the name is right after a pointer.
+fn write_space<W: Write>(
+    draft: &mut Draft<'_, W>,
+    is_after_pointer: bool,
+) -> Result<(), TextError> {
     if !is_after_pointer {
         draft.out.write_str(" ")?;
     }
-    match label {
-        Label::Item(name_offset) => draft.write_name(name_offset),
-        Label::Typedef(type_id) => draft.write_type_name(type_id),
-    }
+    Ok(())
 }

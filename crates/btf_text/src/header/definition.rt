@@ -1,7 +1,7 @@
 //! Whole declarations, each with the empty line after it.
 
 use crate::error::TextError;
-use crate::header::declaration::write_tagged;
+use crate::header::declaration::{write_declaration, write_tagged};
 use crate::header::draft::{ARGUMENT_LIST, Draft};
 use crate::header::enumeration::write_enumeration;
 use crate::header::members::begin_members;
@@ -88,11 +88,13 @@ pub fn write_typedef<W: Write>(draft: &mut Draft<'_, W>, type_id: u32) -> Result
         return Ok(());
     }
     draft.out.write_str("typedef ")?;
-    draft.tasks.push(Task::Whole(Declaration {
+    draft.count_step()?;
+    let declaration = Declaration {
         type_id: target,
         label: Label::Typedef(type_id),
         level: 0,
-    }))?;
+    };
+    write_declaration(draft, &declaration)?;
     write_tasks(draft)?;
     end_declaration(draft)
 }

@@ -35,8 +35,23 @@ pub const ARGUMENT_LIST: &str = "__builtin_va_list";
 /// The size of an argument list on BPF in bytes: it is a pointer.
 const ARGUMENT_LIST_SIZE: usize = 8;
 
-/// The maximum number of tabs before a line.
-const INDENT_LIMIT: usize = 13;
+/// The beginnings of lines by the number of tabs. No line has more.
+static LINES: [&str; 14] = [
+    "\n",
+    "\n\t",
+    "\n\t\t",
+    "\n\t\t\t",
+    "\n\t\t\t\t",
+    "\n\t\t\t\t\t",
+    "\n\t\t\t\t\t\t",
+    "\n\t\t\t\t\t\t\t",
+    "\n\t\t\t\t\t\t\t\t",
+    "\n\t\t\t\t\t\t\t\t\t",
+    "\n\t\t\t\t\t\t\t\t\t\t",
+    "\n\t\t\t\t\t\t\t\t\t\t\t",
+    "\n\t\t\t\t\t\t\t\t\t\t\t\t",
+    "\n\t\t\t\t\t\t\t\t\t\t\t\t\t",
+];
 
 /// The output, and the state from declaration to declaration.
 #[derive(Drop)]
@@ -85,7 +100,12 @@ impl<'a, W: Write> Draft<'a, W> {
 
     /// Counts a step. The error is `TooLong` if there were too many.
     pub fn count_step(&mut self) -> Result<(), TextError> {
-        let Some(left) = self.steps_left.checked_sub(1) else {
+        self.count_steps(1)
+    }
+
+    /// Counts steps. The error is `TooLong` if there were too many.
+    pub fn count_steps(&mut self, steps: u64) -> Result<(), TextError> {
+        let Some(left) = self.steps_left.checked_sub(steps) else {
             return Err(TextError::TooLong);
         };
         self.steps_left = left;
@@ -121,10 +141,8 @@ impl<'a, W: Write> Draft<'a, W> {
 
     /// Begins a line with tabs.
     pub fn begin_line(&mut self, level: usize) -> Result<(), TextError> {
-        self.out.write_str("\n")?;
-        for _ in 0..level.min(INDENT_LIMIT) {
-            self.out.write_str("\t")?;
-        }
+        let beginning = LINES.get(level).or(LINES.last()).unwrap_or(&"\n");
+        self.out.write_str(beginning)?;
         Ok(())
     }
 
@@ -133,9 +151,14 @@ impl<'a, W: Write> Draft<'a, W> {
         self.names.write_type(self.table, type_id, &mut *self.out)
     }
 
-    /// Writes the name of a member or parameter as an identifier.
-    pub fn write_name(&mut self, name_offset: u32) -> Result<(), TextError> {
+    /// Writes the name of an INT or a FLOAT.
+    pub fn write_number_type(&mut self, type_id: u32) -> Result<(), TextError> {
         self.names
-            .write_plain(self.table, name_offset, &mut *self.out)
+            .write_number_type(self.table, type_id, &mut *self.out)
+    }
+
+    /// Writes the name of a member or parameter as an identifier.
+    pub fn write_name(&mut self, text: &str) -> Result<(), TextError> {
+        self.names.write_plain(text, &mut *self.out)
     }
 }

@@ -91,8 +91,11 @@ pub fn is_number_name(text: &str) -> bool {
 
 /// Whether a byte may be in an identifier.
 fn is_word_byte(byte: u8) -> bool {
-    byte.is_ascii_alphanumeric() || byte == b'_'
+    matches!(byte, b'a'..=b'z' | b'A'..=b'Z' | b'0'..=b'9' | b'_')
 }
+
+/// The number of bytes that the longest of the other words has.
+const KEYWORD_LEN: usize = 8;
 
 /// The other words that are no identifiers, by their first byte.
 fn keywords_from(first: u8) -> &'static [&'static str] {
@@ -118,10 +121,10 @@ fn keywords_from(first: u8) -> &'static [&'static str] {
 
 /// Whether a word of letters, digits and `_` is a keyword.
 fn is_keyword(word: &str) -> bool {
-    match word.as_bytes().first() {
-        Some(b'_') => RESERVED.binary_search(&word).is_ok(),
-        Some(first) => keywords_from(*first).contains(&word),
-        None => false,
+    match word.as_bytes() {
+        [b'_', b'_' | b'A'..=b'Z', ..] => RESERVED.binary_search(&word).is_ok(),
+        [first, rest @ ..] if rest.len() < KEYWORD_LEN => keywords_from(*first).contains(&word),
+        _ => false,
     }
 }
 

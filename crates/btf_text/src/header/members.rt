@@ -1,6 +1,7 @@
 //! The definitions of structures and unions.
 
 use crate::error::TextError;
+use crate::header::declaration::{Base, has_no_tasks, read_chain, write_around};
 use crate::header::draft::Draft;
 use crate::header::padding::{Gap, Next, round_up, write_padding};
 use crate::header::task::{Declaration, Label, Task};
@@ -25,6 +26,17 @@ pub struct Members<'a> {
     alignment: u64,
     /// The number of tabs before the first line.
     level: usize,
+}
+
+impl Members<'_> {
+    /// The declaration of a member.
+    fn declaration_of(&self, member: &BtfMember) -> Declaration {
+        Declaration {
+            type_id: member.btf_type,
+            label: Label::Item(member.name_offset),
+            level: self.level.saturating_add(1),
+        }
+    }
 }
 
 /// Begins the definition of a STRUCT or UNION. Its members come next.
@@ -71,15 +83,39 @@ fn is_packed<W: Write>(draft: &Draft<'_, W>, group: &Group<'_>) -> bool {
     u64::from(group.size) % largest.max(1) != 0
 }
 
-/// Writes the next member of a STRUCT or UNION, or the brace after the last one.
-pub fn write_next_member<'a, W: Write>(
+/// Writes the next members of a STRUCT or UNION, up to the first whose declaration has tasks, or the brace after the last
+/// one.
+pub fn write_next_members<'a, W: Write>(
     draft: &mut Draft<'a, W>,
     state: &Members<'a>,
 ) -> Result<(), TextError> {
-    match state.group.members.get(state.index) {
-        Some(member) => write_member(draft, state, member),
-        None => end_members(draft, state),
+    let mut state = *state;
+    for member in state.group.members.get(state.index..).unwrap_or(&[]) {
+        let next = begin_member(draft, &state, member)?;
+        let base = read_chain(draft, member.btf_type)?;
+        if !has_no_tasks(draft, &base) {
+            return write_with_tasks(draft, &next, member, &base);
+        }
+        write_around(draft, &base, &next.declaration_of(member))?;
+        end_member(draft, next.group.bit_field_size(member))?;
+        // The end of this member, and the next one.
+        draft.count_steps(2)?;
+        state = next;
     }
+    end_members(draft, &state)
+}
+
+/// Writes a member whose declaration has tasks. The end of the member and the further members come after them.
+fn write_with_tasks<'a, W: Write>(
+    draft: &mut Draft<'a, W>,
+    next: &Members<'a>,
+    member: &BtfMember,
+    base: &Base<'a>,
+) -> Result<(), TextError> {
+    draft.tasks.push(Task::Members(*next))?;
+    let bits = next.group.bit_field_size(member);
+    draft.tasks.push(Task::EndMember(bits))?;
+    write_around(draft, base, &next.declaration_of(member))
 }
 
 /// The gap before a member.
@@ -108,12 +144,13 @@ fn gap_before<W: Write>(draft: &Draft<'_, W>, state: &Members<'_>, member: &BtfM
     }
 }
 
-/// Writes a member.
-fn write_member<'a, W: Write>(
+/// Begins the line of a member, and returns the members after it.
+fn begin_member<'a, W: Write>(
     draft: &mut Draft<'a, W>,
     state: &Members<'a>,
     member: &BtfMember,
-) -> Result<(), TextError> {
+) -> Result<Members<'a>, TextError> {
+    draft.count_step()?;
     let level = state.level.saturating_add(1);
     let gap = gap_before(draft, state, member);
     write_padding(draft, &gap, level)?;
@@ -125,7 +162,7 @@ fn write_member<'a, W: Write>(
         draft.bits_of(member.btf_type)
     };
     let end = gap.to.saturating_add(width);
-    let next = Members {
+    Ok(Members {
         index: state.index.saturating_add(1),
         end: if state.group.is_union {
             end.max(state.end)
@@ -134,15 +171,7 @@ fn write_member<'a, W: Write>(
         },
         is_after_bit_field: bits > 0,
         ..*state
-    };
-    draft.tasks.push(Task::Members(next))?;
-    draft.tasks.push(Task::EndMember(bits))?;
-    draft.tasks.push(Task::Whole(Declaration {
-        type_id: member.btf_type,
-        label: Label::Item(member.name_offset),
-        level,
-    }))?;
-    Ok(())
+    })
 }
 
 /// Writes the end of a member's declaration, with the number of bits of a bit-field, which is 0 for another member.

@@ -1,61 +1,44 @@
 //! The names of types and values. Each is written once: a further type of a name has a number after it.
 
 use crate::error::TextError;
-use crate::header::identifier::{add_escaped, is_identifier};
+use crate::header::identifier::{add_escaped, is_identifier, is_number_name};
+use crate::header::spelling::Spelling;
+use crate::header::uses::{Naming, Tag, Uses};
 use crate::word::{text_at, text_or_empty};
 use btf_records::BtfType;
 use btf_table::{Btf, type_count};
 use std::alloc::{AllocError, Global};
-use std::collections::BTreeMap;
 use std::fmt::Write;
 
-/// What a name is the name of.
+/// How the name of a type is written.
 #[derive(Clone, Copy, PartialEq, Eq)]
-enum Tag {
-    Struct,
-    Union,
-    Enum,
-    /// A number, a TYPEDEF, or a value of an enumeration.
-    Other,
+enum Form {
+    /// As it is: it is an identifier, or a name of numbers in C.
+    Plain,
+    /// Escaped: it is no identifier.
+    Escaped,
 }
 
-/// How a type uses its name.
+/// The name of a type.
 #[derive(Clone, Copy)]
-struct Naming {
-    tag: Tag,
-    /// Whether the type is only declared, so that it can have the name of a type that is defined.
-    is_forward: bool,
-}
-
-/// The use of a name.
-#[derive(Clone, Copy)]
-struct Use {
-    /// The tag of the type that has the name without a number.
-    tag: Tag,
-    /// Whether that type is defined.
-    is_defined: bool,
-    /// The last number; 1 is the name without a number.
-    last: u32,
+struct TypeName {
+    /// The number after it, from 1 on; 0 if the type was not named.
+    number: u32,
+    /// None if it was not written.
+    form: Option<Form>,
 }
 
 /// The names that were written.
 #[derive(Drop)]
 pub struct Names {
-    alloc: Global,
     /// The names after `struct`, `union` and `enum`.
     tags: Uses,
     /// The names of TYPEDEFs and of the values of enumerations.
     identifiers: Uses,
-    /// For each type, the number after its name, from 1 on; 0 if the type was not named.
-    numbers: Vec<u32>,
+    /// The names of the types.
+    types: Vec<TypeName>,
     /// The spelling of a name that is no identifier.
     escaped: String,
-}
-
-/// The used names of a name space of C (C11, 6.2.3).
-#[derive(Drop)]
-struct Uses {
-    uses: BTreeMap<String, Use>,
 }
 
 /// How a type uses its name.
@@ -80,24 +63,26 @@ fn naming_of(btf_type: &BtfType) -> Naming {
     }
 }
 
-impl Naming {
-    /// The naming of a type that is defined.
-    fn defined(tag: Tag) -> Naming {
-        Naming {
-            tag,
-            is_forward: false,
-        }
+/// How a name is written. The name of a number can have several words.
+fn form_of(text: &str, is_number: bool) -> Form {
+    if is_number && is_number_name(text) || is_identifier(text) {
+        Form::Plain
+    } else {
+        Form::Escaped
     }
 }
 
 impl Names {
     /// No names, for the types of a table.
     pub fn new(alloc: Global, table: &Btf) -> Result<Names, AllocError> {
+        let new = TypeName {
+            number: 0,
+            form: None,
+        };
         Ok(Names {
-            alloc,
             tags: Uses::new(alloc),
             identifiers: Uses::new(alloc),
-            numbers: vec![in alloc; 0; type_count(table) as usize]?,
+            types: vec![in alloc; new; type_count(table) as usize]?,
             escaped: String::new(alloc),
         })
     }
@@ -111,25 +96,91 @@ impl Names {
         out: &mut W,
     ) -> Result<(), TextError> {
         let number = self.number_of(table, type_id)?;
-        let offset = table.type_by_id(type_id)?.name_offset();
-        self.write_plain(table, offset, out)?;
+        self.write_alone(table, type_id, false, out)?;
         write_number(number, out)
+    }
+
+    /// Writes the name of an INT or a FLOAT: its text if that is a name of numbers in C, and otherwise an identifier.
+    pub fn write_number_type<W: Write>(
+        &mut self,
+        table: &Btf,
+        type_id: u32,
+        out: &mut W,
+    ) -> Result<(), TextError> {
+        self.write_alone(table, type_id, true, out)
+    }
+
+    /// Writes the name of a type without a number.
+    fn write_alone<W: Write>(
+        &mut self,
+        table: &Btf,
+        type_id: u32,
+        is_number: bool,
+        out: &mut W,
+    ) -> Result<(), TextError> {
+        let read = text_at(table, table.type_by_id(type_id)?.name_offset())?;
+        let text = text_or_empty(&read);
+        match self.known_form(type_id, text, is_number) {
+            Form::Plain => out.write_str(text)?,
+            Form::Escaped => {
+                self.escape(text)?;
+                out.write_str(self.escaped.as_str())?;
+            }
+        }
+        Ok(())
+    }
+
+    /// How the name of a type is written, which is examined once.
+    fn known_form(&mut self, type_id: u32, text: &str, is_number: bool) -> Form {
+        let Some(name) = self.types.get_mut(type_id as usize) else {
+            return form_of(text, is_number);
+        };
+        match name.form {
+            Some(form) => form,
+            None => {
+                let form = form_of(text, is_number);
+                name.form = Some(form);
+                form
+            }
+        }
     }
 
     /// The number of a type, which gets one if it has none.
     pub fn number_of(&mut self, table: &Btf, type_id: u32) -> Result<u32, TextError> {
-        match self.numbers.get(type_id as usize) {
-            Some(number) if *number > 0 => return Ok(*number),
+        match self.types.get(type_id as usize) {
+            Some(name) if name.number > 0 => return Ok(name.number),
             _ => {}
         }
         let btf_type = table.type_by_id(type_id)?;
-        let naming = naming_of(btf_type);
-        let is_tag = !matches!(btf_type, BtfType::Typedef(_));
-        let number = self.count(table, btf_type.name_offset(), naming, is_tag)?;
-        if let Some(known) = self.numbers.get_mut(type_id as usize) {
-            *known = number;
+        let number = self.count_type(table, btf_type)?;
+        if let Some(name) = self.types.get_mut(type_id as usize) {
+            name.number = number;
         }
         Ok(number)
+    }
+
+    /// Counts a use of the name of a type, and returns its number.
+    fn count_type(&mut self, table: &Btf, btf_type: &BtfType) -> Result<u32, TextError> {
+        let naming = naming_of(btf_type);
+        let name_offset = btf_type.name_offset();
+        let read = text_at(table, name_offset)?;
+        let text = text_or_empty(&read);
+        let is_plain = is_identifier(text);
+        if !is_plain {
+            self.escape(text)?;
+        }
+        let written = if is_plain {
+            text
+        } else {
+            self.escaped.as_str()
+        };
+        let spelling = Spelling::new(written, Some(name_offset));
+        if matches!(btf_type, BtfType::Typedef(_)) {
+            self.identifiers
+                .count(table, name_offset, &spelling, naming)
+        } else {
+            self.tags.count(table, name_offset, &spelling, naming)
+        }
     }
 
     /// Writes the name of a value of an enumeration, with a number if the name was written before.
@@ -139,21 +190,28 @@ impl Names {
         name_offset: u32,
         out: &mut W,
     ) -> Result<(), TextError> {
+        let read = text_at(table, name_offset)?;
+        let text = text_or_empty(&read);
+        let is_plain = is_identifier(text);
+        if !is_plain {
+            self.escape(text)?;
+        }
+        let written = if is_plain {
+            text
+        } else {
+            self.escaped.as_str()
+        };
+        let spelling = Spelling::new(written, Some(name_offset));
         let naming = Naming::defined(Tag::Other);
-        let number = self.count(table, name_offset, naming, false)?;
-        self.write_plain(table, name_offset, out)?;
+        let number = self
+            .identifiers
+            .count(table, name_offset, &spelling, naming)?;
+        out.write_str(spelling.text)?;
         write_number(number, out)
     }
 
-    /// Writes the name at a string offset as an identifier, without a number.
-    pub fn write_plain<W: Write>(
-        &mut self,
-        table: &Btf,
-        name_offset: u32,
-        out: &mut W,
-    ) -> Result<(), TextError> {
-        let read = text_at(table, name_offset)?;
-        let text = text_or_empty(&read);
+    /// Writes a text as an identifier, without a number.
+    pub fn write_plain<W: Write>(&mut self, text: &str, out: &mut W) -> Result<(), TextError> {
         if is_identifier(text) {
             out.write_str(text)?;
         } else {
@@ -168,102 +226,6 @@ impl Names {
         self.escaped.clear();
         add_escaped(&mut self.escaped, text)
     }
-
-    /// Counts a use of the name at a string offset, and returns its number. A tag is a name after `struct`, `union` or
-    /// `enum`.
-    fn count(
-        &mut self,
-        table: &Btf,
-        name_offset: u32,
-        naming: Naming,
-        is_tag: bool,
-    ) -> Result<u32, TextError> {
-        let read = text_at(table, name_offset)?;
-        let text = text_or_empty(&read);
-        if !is_identifier(text) {
-            self.escape(text)?;
-        }
-        let name = spelling_of(text, self.escaped.as_str());
-        if is_tag {
-            self.tags.count(self.alloc, name, naming)
-        } else {
-            self.identifiers.count(self.alloc, name, naming)
-        }
-    }
-}
-
-impl Uses {
-    /// No names.
-    fn new(alloc: Global) -> Uses {
-        Uses {
-            uses: BTreeMap::new(alloc),
-        }
-    }
-
-    /// Counts a use of a name, and returns its number. A type that is only declared has the same number as the first one
-    /// of its tag.
-    fn count(&mut self, alloc: Global, name: &str, naming: Naming) -> Result<u32, TextError> {
-        let new = Use {
-            tag: naming.tag,
-            is_defined: !naming.is_forward,
-            last: 1,
-        };
-        // Most names are new, so that one search is enough.
-        match self.uses.insert(String::from_str(alloc, name)?, new)? {
-            None => Ok(1),
-            Some(known) => self.count_again(alloc, name, known, naming),
-        }
-    }
-
-    /// Counts a use of a name that was used before, and returns its number.
-    fn count_again(
-        &mut self,
-        alloc: Global,
-        name: &str,
-        known: Use,
-        naming: Naming,
-    ) -> Result<u32, TextError> {
-        let is_defined = !naming.is_forward;
-        let is_same = known.tag == naming.tag && !(is_defined && known.is_defined);
-        if let Some(used) = self.uses.get_mut(name) {
-            *used = Use {
-                is_defined: known.is_defined || is_same && is_defined,
-                ..known
-            };
-        }
-        if is_same {
-            return Ok(1);
-        }
-        self.count_further(alloc, name, known.last)
-    }
-
-    /// Counts a further use of a name whose last number is this one, and returns its number. The name with the number is
-    /// no other name.
-    fn count_further(&mut self, alloc: Global, name: &str, last: u32) -> Result<u32, TextError> {
-        let mut number = last;
-        for _ in 0..self.uses.len().saturating_add(1) {
-            number = number.saturating_add(1);
-            let word = format!(in alloc; "{name}___{number}")?;
-            if !self.uses.contains_key(word.as_str()) {
-                let new = Use {
-                    tag: Tag::Other,
-                    is_defined: true,
-                    last: 1,
-                };
-                self.uses.insert(word, new)?;
-                break;
-            }
-        }
-        if let Some(known) = self.uses.get_mut(name) {
-            known.last = number;
-        }
-        Ok(number)
-    }
-}
-
-/// The spelling of a text, for which this one is escaped if the text is no identifier.
-fn spelling_of<'a>(text: &'a str, escaped: &'a str) -> &'a str {
-    if is_identifier(text) { text } else { escaped }
 }
 
 /// Writes the number after a name; nothing for the first type of the name.

@@ -1,6 +1,7 @@
 //! The parameters of a prototype.
 
 use crate::error::TextError;
+use crate::header::declaration::write_declaration;
 use crate::header::draft::Draft;
 use crate::header::task::{Declaration, Label, Task};
 use btf_plain::BtfParam;
@@ -73,10 +74,13 @@ pub fn write_next_param<'a, W: Write>(
         index: next,
         level: state.level,
     }))?;
-    draft.tasks.push(Task::Whole(Declaration {
-        type_id: param.btf_type,
-        label: Label::Item(param.name_offset),
-        level: state.level,
-    }))?;
-    Ok(())
+    draft.count_step()?;
+    write_declaration(
+        draft,
+        &Declaration {
+            type_id: param.btf_type,
+            label: Label::Item(param.name_offset),
+            level: state.level,
+        },
+    )
 }

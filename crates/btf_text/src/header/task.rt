@@ -1,9 +1,9 @@
 //! The parts of a declaration, which an explicit stack has, whatever the depth of types in types.
 
 use crate::error::TextError;
-use crate::header::declaration::{write_declaration, write_rest};
+use crate::header::declaration::write_rest;
 use crate::header::draft::Draft;
-use crate::header::members::{Members, end_member, write_next_member};
+use crate::header::members::{Members, end_member, write_next_members};
 use crate::header::params::{Params, write_next_param};
 use std::fmt::Write;
 
@@ -29,8 +29,6 @@ pub struct Declaration {
 /// A part of a declaration.
 #[derive(Clone, Copy, Drop)]
 pub enum Task<'a> {
-    /// A whole declaration.
-    Whole(Declaration),
     /// The part of a declaration after its base, which is written.
     AfterBase(Declaration),
     /// The next member of a STRUCT or UNION.
@@ -60,9 +58,8 @@ pub fn write_tasks<W: Write>(draft: &mut Draft<'_, W>) -> Result<(), TextError> 
 /// Writes a task.
 fn write_task<'a, W: Write>(draft: &mut Draft<'a, W>, task: Task<'a>) -> Result<(), TextError> {
     match task {
-        Task::Whole(declaration) => write_declaration(draft, &declaration),
         Task::AfterBase(declaration) => write_rest(draft, &declaration),
-        Task::Members(members) => write_next_member(draft, &members),
+        Task::Members(members) => write_next_members(draft, &members),
         Task::Params(params) => write_next_param(draft, &params),
         Task::EndMember(bits) => end_member(draft, bits),
         Task::Close => {
