@@ -10,6 +10,7 @@ ghost use Rattle.btf_cli.specs.Fault.{fault_refusal};
 ghost use Rattle.btf_cli.specs.Line.{Asks, IfAsked, IsCommandLine};
 ghost use Rattle.btf_cli.specs.Answer.{Writes, WritesFor, Declines, IfDeclined, IsAnswer, IsDeclined};
 ghost use Rattle.btf_cli.specs.Output.{output_bytes};
+ghost use Rattle.btf_model.specs.Refusal.{Refusal};
 
 use crate::comparison::compare_ids;
 use crate::fault::Fault;

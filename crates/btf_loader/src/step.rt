@@ -9,7 +9,7 @@ ghost use Rattle.btf_loader_model.specs.Refused.{BadRecord, BadSectionName, bad_
 ghost use Rattle.btf_loader.specs.Errors.{Reports};
 ghost use Rattle.btf_loader.specs.Names.{HasIndices};
 ghost use Rattle.btf_loader.specs.Places.{HasPlaces};
-ghost use Rattle.btf_loader.specs.Results.{code_relocated, file_reason, file_relocated, loader_setting, outcomes_of, loader_section_reason, section_relocated};
+ghost use Rattle.btf_loader.specs.Results.{code_relocated, file_reason, file_relocated, loader_setting, outcomes_of, loader_section_reason, section_relocated, refuses_errors};
 ghost use Rattle.btf_loader.specs.declared.step.Refusals.TheVariants.{Refuse};
 ghost use Rattle.btf_relocate.specs.Sections.{is_shared};
 ghost use Rattle.btf_table.specs.Readable.{IsReadableEnd};

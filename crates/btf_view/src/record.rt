@@ -1,6 +1,7 @@
 //! The words of the record at a place.
 
-ghost use Rattle.std.specs.Prelude.{◌≡◌, ◌⊎◌, ◌≢◌, ◌+◌, ◌<◌, ◌≤◌, ℕ, List, length, Some, IfSome, IsSomeAnd};
+ghost use Rattle.std.specs.Prelude.{◌≡◌, ◌⊎◌, ◌≢◌, ◌+◌, ◌<◌, ◌≤◌, ℕ, List, length, Some, IfSome, IsSomeAnd, drop, take};
+ghost use Rattle.std.specs.Int.{from_le_bytes, w32};
 ghost use Rattle.std.specs.Option.{option_map};
 ghost use Rattle.btf_model.specs.Blob as blob;
 ghost use Rattle.btf_model.specs.Record.{Record, Kind, kind_of};
@@ -22,6 +23,38 @@ pub(crate) fn word_at(bytes: &[u8], at: usize, endianness: Endianness) -> u32
     match bytes[at..at + 4].first_chunk::<4>() {
         Some(word) => endianness.read_u32(*word),
         None => 0,
+    }
+}
+
+/// Two words in little order at an offset, read as one number.
+#[inline(always)]
+fn little_pair(bytes: &[u8], at: usize) -> (u32, u32)
+    requires { at + 8 ≤ length bytes.now }
+    ensures first { result.0 ≡ from_le_bytes w32 (take 4 (drop at bytes.now)) }
+    ensures second { result.1 ≡ from_le_bytes w32 (take 4 (drop (at + 4) bytes.now)) }
+{
+    match bytes[at..at + 8].first_chunk::<8>() {
+        Some(pair) => {
+            let both = u64::from_le_bytes(*pair);
+            ((both & 0xffff_ffff) as u32, (both >> 32) as u32)
+        }
+        None => (0, 0),
+    }
+}
+
+/// Two words at an offset. A loop over little-endian types loads and stores both in one piece.
+#[inline(always)]
+fn word_pair_at(bytes: &[u8], at: usize, endianness: Endianness) -> (u32, u32)
+    requires { at + 8 ≤ length bytes.now }
+    ensures first { result.0 ≡ blob.word_at endianness at bytes.now }
+    ensures second { result.1 ≡ blob.word_at endianness (at + 4) bytes.now }
+{
+    match endianness {
+        Endianness::Little => little_pair(bytes, at),
+        Endianness::Big => (
+            word_at(bytes, at, endianness),
+            word_at(bytes, at + 4, endianness),
+        ),
     }
 }
 
@@ -104,9 +137,10 @@ pub(crate) fn most_head_at(types: &[u8], place: u32, endianness: Endianness) -> 
     if types.len() < at + 12 {
         return None;
     }
+    let words = word_pair_at(types, at, endianness);
     let head = Head {
-        name: word_at(types, at, endianness),
-        info: word_at(types, at + 4, endianness),
+        name: words.0,
+        info: words.1,
         third: word_at(types, at + 8, endianness),
     };
     if head.kind() == 0 {

@@ -14,8 +14,8 @@
 //! - While a copy is in use, its handle is not changed or closed.
 //! - The functions `malloc`, `realloc` and `free` are one allocator.
 //!
-//! The calls named `vbtf_raw_view_..` take no handle: they read a blob in the caller's memory, by an array of the caller's
-//! with the place of each record, which `vbtf_raw_view_index` fills.
+//! The calls named `vbtf_raw_view_..` take no handle: they read a blob in the caller's memory, by an array of the
+//! caller's with the place of each record, which `vbtf_raw_view_index` fills.
 //!
 //! Each exported function restates the clauses of the call that it makes. It returns a status: 0 for success; 1 to 20
 //! for an error of `btf`, by its position in `BtfError`; 100 for a buffer that is too small; 101 for a handle in

@@ -7,6 +7,6 @@ pub returns : goal.returns
 returns c r is =
     let types = c.args.types.now in
     let place = c.args.place in
-    let head : Head = record { name = c.word_at.result; info = c.word_at-2.result; third = c.word_at-3.result } in
-    let at = head_in c.args.endianness types place c.word_at.result c.word_at-2.result c.word_at-3.result c.word_at.ensures c.word_at-2.ensures c.word_at-3.ensures (omega (arith, c.if-types-at.false)) in
+    let head : Head = record { name = c.word_pair_at-words.result.0; info = c.word_pair_at-words.result.1; third = c.word_at.result } in
+    let at = head_in c.args.endianness types place c.word_pair_at-words.result.0 c.word_pair_at-words.result.1 c.word_at.result c.word_pair_at-words.ensures.first c.word_pair_at-words.ensures.second c.word_at.ensures (omega (arith, c.if-types-at.false)) in
     retained head c.kept_head.result r (head_there c.args.endianness types place r head _ at is) c.kept_head.ensures
