@@ -1,11 +1,9 @@
 -- What is taken out of a handle.
-use Rattle.std.specs.Prelude.{◌≡◌, ℕ, List, length}
+use Rattle.std.specs.Prelude.{◌≡◌, ℕ}
 use base.Fml.{Share}
 use denote.RawPtr.{Ptr}
 use Rattle.vbtf.specs.Changed.{ChangedTo}
-use Rattle.vbtf.specs.Lent.{AreNamesFrom}
 use Rattle.vbtf.specs.declared.handle.Handle.{Handle}
-use Rattle.vbtf.specs.declared.lent_name.Name.{Name}
 use Rattle.vbtf.specs.declared.opened.Opened.{Opened}
 
 -- The handle lends a table, and the share of the loan at this pointer is the handle's.
@@ -20,8 +18,3 @@ IsTakenFrom old new value = (old.state ≡ 1) × (new.state ≡ 0) × (value ≡
 -- The same, but no index is open any more.
 abbrev pub IsTakenToChange : Handle → Handle → Opened → Type 0
 IsTakenToChange old new value = (old.state ≡ 1) × (new.state ≡ 0) × ChangedTo old.opened value old.opened.btf
-
--- The strings from an offset on, up to and with their last zero byte, are lent for this lifetime.
-abbrev pub AreLentFrom : List ℕ → ℕ → ℕ → Name → Type 0
-AreLentFrom strings life offset names =
-    (names.life ≡ life) × AreNamesFrom strings offset names.bytes × (names.len ≡ length names.bytes)

@@ -7,8 +7,9 @@ ghost use Rattle.vbtf.specs.Adding.{AddsRecord, EndsAddingType, EndsAdding, Ends
 ghost use Rattle.vbtf.specs.Orders.{order_named};
 
 use crate::fault::{CLOSED, Fault, INVALID_ARGUMENT, report};
-use crate::handle::{Handle, owner, taken_to_change};
+use crate::handle::{Handle, owner};
 use crate::orders::order_of;
+use crate::taken::take_to_change;
 use btf::{Btf, BtfError, BtfType, Endianness};
 use std::alloc::Global;
 
@@ -33,7 +34,7 @@ pub extern "C" fn vbtf_raw_add_string(
     let Ok(text) = str::from_utf8(text) else {
         return INVALID_ARGUMENT;
     };
-    let Some(mut whole) = taken_to_change(alloc, table) else {
+    let Some(mut whole) = take_to_change(alloc, table) else {
         return CLOSED;
     };
     let answer = whole.btf.add_string(text);
@@ -70,7 +71,7 @@ pub extern "C" fn vbtf_raw_add_type(
     let Some(endianness) = order_of(order) else {
         return INVALID_ARGUMENT;
     };
-    let Some(mut whole) = taken_to_change(alloc, table) else {
+    let Some(mut whole) = take_to_change(alloc, table) else {
         return CLOSED;
     };
     let answer = add_record(alloc, &mut whole.btf, bytes, endianness);

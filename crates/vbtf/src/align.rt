@@ -8,8 +8,9 @@ ghost use Rattle.vbtf.specs.Aligning.{AlignmentOrNone, AreAlignments, EndsAligni
 ghost use Rattle.vbtf.specs.Status.{EndsOrNoMemory, KeepsHandle};
 
 use crate::fault::{CLOSED, Fault, report};
-use crate::handle::{Handle, take_loan};
+use crate::handle::Handle;
 use crate::many::places_from;
+use crate::taken::take_loan;
 use btf::{Btf, BtfError};
 use btf_layout::{Alignments, alignment_of};
 

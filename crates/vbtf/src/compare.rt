@@ -7,7 +7,8 @@ ghost use Rattle.btf_compare.specs.Pairs.{id_pair};
 ghost use Rattle.vbtf.specs.Status.{EndsOrNoMemory, KeepsHandle, IfBothLend};
 
 use crate::fault::{CLOSED, Fault, report};
-use crate::handle::{Handle, take_loan};
+use crate::handle::Handle;
+use crate::taken::take_loan;
 use btf::{fields_are_compatible, types_are_compatible};
 
 /// Whether the types of two fields are compatible, as a relocation of a field requires.

@@ -4,8 +4,9 @@ ghost use Rattle.std.specs.Prelude.{◌≡◌, ◌≢◌, Ok};
 ghost use Rattle.vbtf.specs.Status.{Opens, KeepsHandle};
 
 use crate::fault::{CLOSED, Fault, INVALID_ARGUMENT, report};
-use crate::handle::{Handle, owner, take_loan};
+use crate::handle::{Handle, owner};
 use crate::open::box_table;
+use crate::taken::take_loan;
 use btf::Btf;
 use std::alloc::Global;
 

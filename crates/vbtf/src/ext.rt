@@ -8,10 +8,11 @@ ghost use Rattle.vbtf.specs.Orders.{order_chosen};
 ghost use Rattle.vbtf.specs.Status.{KeepsHandle};
 
 use crate::fault::{CLOSED, Fault, INVALID_ARGUMENT, report};
-use crate::handle::{Handle, owner, take_loan, take_table};
+use crate::handle::{Handle, owner};
 use crate::opened::Opened;
 use crate::orders::choose_order;
 use crate::seed::Keys;
+use crate::taken::{take_loan, take_table};
 use btf::{BtfError, BtfExt, Endianness};
 use std::alloc::Global;
 

@@ -11,9 +11,10 @@ ghost use Rattle.vbtf.specs.ExtRead.{NamesOf, ListsNames, HasSectionName, Record
 ghost use Rattle.vbtf.specs.Status.{EndsFilling, KeepsHandle};
 
 use crate::fault::{CLOSED, Fault, INVALID_ARGUMENT, NO_ITEM, report};
-use crate::handle::{Handle, take_loan};
+use crate::handle::Handle;
 use crate::opened::{KeyedExt, Opened};
 use crate::seed::Keys;
+use crate::taken::take_loan;
 use crate::write::fill;
 use btf::{BtfError, relocations_of};
 use std::alloc::{AllocError, Global};

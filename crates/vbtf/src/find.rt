@@ -11,7 +11,8 @@ ghost use Rattle.vbtf.specs.Finding.{FindsFrom, IsSought, IsWanted, asked_kind, 
 ghost use Rattle.vbtf.specs.Status.{KeepsHandle};
 
 use crate::fault::{CLOSED, Fault, INVALID_ARGUMENT, report};
-use crate::handle::{Handle, take_loan};
+use crate::handle::Handle;
+use crate::taken::take_loan;
 use btf::{Btf, BtfError, BtfKind, BtfType};
 use btf_table::{allocator_of, comparable_end, is_named, type_count};
 

@@ -1,13 +1,10 @@
 //! The handle through which C holds a table.
 
 ghost use Rattle.std.specs.Prelude.{◌≡◌, ◌≢◌, ℕ, length};
-ghost use Rattle.std.specs.Option.{MatchOption};
 ghost use base.Fml.{Share};
 ghost use Rattle.vbtf.specs.declared.opened.Opened.{Opened};
-ghost use Rattle.vbtf.specs.Changed.{ChangedTo};
 ghost use Rattle.vbtf.specs.Held.{held, coded_opened, coded_share};
-ghost use Rattle.vbtf.specs.Lent.{AreNamesFrom};
-ghost use Rattle.vbtf.specs.Taken.{AreLentFrom, IsLoanOf, IsTakenFrom, IsTakenToChange};
+ghost use Rattle.vbtf.specs.Lent.{AreLentFrom};
 
 use crate::lent_name::Name;
 use crate::loan::Loan;
@@ -115,7 +112,8 @@ impl Handle {
     pub(crate) fn names_at(&mut self, offset: u32) -> Name
         requires { self.old.state ≡ 2 }
         ensures { (self.new ≡ self.old)
-            × AreLentFrom self.old.opened.btf.strings self.old.life offset result }
+            × AreLentFrom self.old.opened.btf.strings self.old.life offset
+            result.bytes result.len result.life }
     {
         let opened = unsafe { &*(self.at as *mut Opened) };
         let names = names_from(opened, offset);
@@ -127,39 +125,6 @@ impl Handle {
 }
 
 unsafe impl Send for Handle {}
-
-/// Takes the share of a loan out of a handle, and closes the handle. None if it is not in state 2.
-pub(crate) fn take_loan(table: &mut Handle) -> Option<Loan<Opened>>
-    ensures { MatchOption result ((table.old.state ≢ 2) × (table.new ≡ table.old))
-        (λ loan. IsLoanOf table.old loan.at loan.value loan.life loan.share) }
-{
-    if table.read_state() != LENT {
-        return None;
-    }
-    Some(replace(table, Handle::none()).to_loan())
-}
-
-/// Takes the table out of a handle, and closes the handle. None if it is not in state 1.
-pub(crate) fn take_table(alloc: Global, table: &mut Handle) -> Option<Box<Opened>>
-    ensures { MatchOption result ((table.old.state ≢ 1) × (table.new ≡ table.old))
-        (λ whole. IsTakenFrom table.old table.new whole.value) }
-{
-    if table.read_state() != OWNED {
-        return None;
-    }
-    Some(replace(table, Handle::none()).to_parts(alloc).into_box())
-}
-
-/// Takes the table out of a handle, to change it, without its index, and closes the handle. None if it is not in state
-/// 1.
-pub(crate) fn taken_to_change(alloc: Global, table: &mut Handle) -> Option<Box<Opened>>
-    ensures { MatchOption result ((table.old.state ≢ 1) × (table.new ≡ table.old))
-        (λ whole. IsTakenToChange table.old table.new whole.value) }
-{
-    let mut whole = take_table(alloc, table)?;
-    whole.index = None;
-    Some(whole)
-}
 
 /// The handle that owns a table.
 pub(crate) fn owner(whole: Box<Opened>) -> Handle

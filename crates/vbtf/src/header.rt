@@ -4,7 +4,8 @@ ghost use Rattle.std.specs.Prelude.{◌≡◌, ◌≢◌};
 ghost use Rattle.vbtf.specs.Status.{FillsOrKeeps, KeepsHandle};
 
 use crate::fault::{CLOSED, Fault, report, report_number};
-use crate::handle::{Handle, take_loan};
+use crate::handle::Handle;
+use crate::taken::take_loan;
 use crate::write::fill;
 use btf::{Btf, BtfError};
 use btf_text::{HeaderTypes, TextError, write_header};

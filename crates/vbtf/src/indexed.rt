@@ -10,8 +10,9 @@ ghost use Rattle.vbtf.specs.IndexFinding.{FindsIndexPlace, IsNamedAt, EndsFindin
 ghost use Rattle.vbtf.specs.Status.{KeepsHandle};
 
 use crate::fault::{CLOSED, Fault, INVALID_ARGUMENT, report};
-use crate::handle::{Handle, take_loan};
+use crate::handle::Handle;
 use crate::opened::Opened;
+use crate::taken::take_loan;
 use btf::{Btf, BtfError, BtfKind};
 use btf_relocate::Target;
 use btf_table::name_bytes;

@@ -8,7 +8,8 @@ ghost use Rattle.vbtf.specs.Items.{IsGroup, IsItem, ItemOf};
 ghost use Rattle.vbtf.specs.Status.{EndsFinding, KeepsHandle};
 
 use crate::fault::{CLOSED, Fault, NO_ITEM, report};
-use crate::handle::{Handle, take_loan};
+use crate::handle::Handle;
+use crate::taken::take_loan;
 use btf::{Btf, BtfError, BtfType};
 use btf_plain::Item as Listed;
 

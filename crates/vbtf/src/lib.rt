@@ -56,6 +56,7 @@ mod rewrite;
 mod section;
 mod seed;
 mod split;
+mod taken;
 mod target;
 mod value;
 mod version;

@@ -7,7 +7,8 @@ ghost use Rattle.vbtf.specs.Lists.{EndsListing};
 ghost use Rattle.vbtf.specs.Status.{KeepsHandle};
 
 use crate::fault::{CLOSED, Fault, report};
-use crate::handle::{Handle, take_loan};
+use crate::handle::Handle;
+use crate::taken::take_loan;
 use btf::{Btf, BtfError, BtfType};
 use btf_view::{Entry, Listed, Member, Param, Variant};
 

@@ -7,8 +7,9 @@ ghost use Rattle.btf_view.specs.Forms.{Begins, words_in, ListsTypes};
 ghost use Rattle.vbtf.specs.Status.{KeepsHandle, IfLends};
 
 use crate::fault::CLOSED;
-use crate::handle::{Handle, take_loan};
+use crate::handle::Handle;
 use crate::read::words;
+use crate::taken::take_loan;
 use btf::{Btf, BtfType};
 use btf_table::type_count;
 use btf_view::TypeWords;

@@ -9,9 +9,10 @@ ghost use Rattle.vbtf.specs.Naming.{AreLentNames, EndsNaming};
 ghost use Rattle.vbtf.specs.Status.{KeepsHandle};
 
 use crate::fault::{CLOSED, Fault, report};
-use crate::handle::{Handle, LENT, take_loan};
+use crate::handle::{Handle, LENT};
 use crate::lent_name::Name;
 use crate::opened::Opened;
+use crate::taken::take_loan;
 use btf::{Btf, BtfError, BtfType, Float};
 use btf_table::{name_bytes, readable_strings, string_section};
 

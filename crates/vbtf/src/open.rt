@@ -9,9 +9,10 @@ ghost use Rattle.vbtf.specs.Status.{Opens};
 ghost use Rattle.vbtf.specs.Changing.{OpensTable, IsAlone};
 
 use crate::fault::{Fault, INVALID_ARGUMENT, report};
-use crate::handle::{Handle, owner, take_table};
+use crate::handle::{Handle, owner};
 use crate::opened::Opened;
 use crate::orders::choose_order;
+use crate::taken::take_table;
 use btf::{Btf, BtfError};
 use std::alloc::Global;
 

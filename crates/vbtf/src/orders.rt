@@ -6,7 +6,8 @@ ghost use Rattle.vbtf.specs.Orders.{order_named, order_number, order_by_magic, o
 ghost use Rattle.vbtf.specs.Status.{KeepsHandle};
 
 use crate::fault::CLOSED;
-use crate::handle::{Handle, take_loan};
+use crate::handle::Handle;
+use crate::taken::take_loan;
 use btf::Endianness;
 
 /// The byte order of a table: 0 for little, 1 for big.

@@ -11,7 +11,8 @@ ghost use Rattle.vbtf.specs.TypeWords.{WordsOf};
 ghost use Rattle.vbtf.specs.Finding.{EndsFindingName, AnswersName};
 
 use crate::fault::{CLOSED, Fault, INVALID_ARGUMENT, report};
-use crate::handle::{Handle, take_loan};
+use crate::handle::Handle;
+use crate::taken::take_loan;
 use btf::{Btf, BtfError, BtfKind, BtfType};
 use btf_view::TypeWords;
 

@@ -8,11 +8,12 @@ ghost use Rattle.vbtf.specs.Relocate.{Outcome as Said, shares_candidates, refuse
 ghost use Rattle.vbtf.specs.Status.{KeepsHandle};
 
 use crate::fault::{CLOSED, Fault, INVALID_ARGUMENT, OUT_OF_MEMORY, report, report_number};
-use crate::handle::{Handle, take_loan};
+use crate::handle::Handle;
 use crate::object::{NO_TABLE, report_parse};
 use crate::opened::Opened;
 use crate::refused::report_refused;
 use crate::seed::Keys;
+use crate::taken::take_loan;
 use crate::write::fill;
 use btf::BtfError;
 use btf_elf::ObjectError;

@@ -10,10 +10,11 @@ ghost use Rattle.vbtf.specs.Program.{layout_named, program_layout};
 ghost use Rattle.vbtf.specs.Status.{no_memory};
 
 use crate::fault::{CLOSED, Fault, INVALID_ARGUMENT, report};
-use crate::handle::{Handle, OWNED, owner, taken_to_change};
+use crate::handle::{Handle, OWNED, owner};
 use crate::kernel::{Asked, Kernel};
 use crate::program::{Named, Program};
 use crate::seed::Keys;
+use crate::taken::take_to_change;
 use arrayvec::ArrayVec;
 use btf::{Btf, BtfError, BtfFeature, BtfFeatureResolver, FeatureAnswer};
 use std::alloc::Global;
@@ -66,7 +67,7 @@ pub extern "C" fn vbtf_raw_rewrite(
         Ok(None) => return INVALID_ARGUMENT,
         Err(_) => return report(BtfError::OutOfMemory, fault),
     };
-    let Some(mut whole) = taken_to_change(alloc, table) else {
+    let Some(mut whole) = take_to_change(alloc, table) else {
         return CLOSED;
     };
     let answer = rewrite(&mut whole.btf, &program, kernel, asked);

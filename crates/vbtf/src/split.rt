@@ -7,9 +7,10 @@ ghost use Rattle.vbtf.specs.Changing.{EndsChanging, EndsOverBase, OpensOverBase,
 ghost use Rattle.vbtf.specs.Status.{EndsFilling, KeepsHandle, Opens, IfLends};
 
 use crate::fault::{CLOSED, Fault, INVALID_ARGUMENT, report};
-use crate::handle::{Handle, owner, take_loan, taken_to_change};
+use crate::handle::{Handle, owner};
 use crate::open::box_table;
 use crate::orders::choose_order;
+use crate::taken::{take_loan, take_to_change};
 use crate::write::fill;
 use btf::Btf;
 use btf_split::{append_split, parse_split, split_bytes, string_len, truncate};
@@ -172,7 +173,7 @@ pub extern "C" fn vbtf_raw_append_split(
     let Some(data_order) = choose_order(order, data) else {
         return INVALID_ARGUMENT;
     };
-    let Some(mut whole) = taken_to_change(alloc, table) else {
+    let Some(mut whole) = take_to_change(alloc, table) else {
         return CLOSED;
     };
     let answer = append_split(&mut whole.btf, data, data_order);
@@ -199,7 +200,7 @@ pub extern "C" fn vbtf_raw_truncate(
     ensures cut { EndsTruncating table.old table.new base_types base_strings fault.new result }
     ensures closed { table.old.state ≢ 1 → (result ≡ CLOSED) × (table.new ≡ table.old) }
 {
-    let Some(mut whole) = taken_to_change(alloc, table) else {
+    let Some(mut whole) = take_to_change(alloc, table) else {
         return CLOSED;
     };
     let answer = truncate(&mut whole.btf, base_types, base_strings);

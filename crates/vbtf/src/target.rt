@@ -8,9 +8,10 @@ ghost use Rattle.vbtf.specs.Resolved.{EndsResolving, ReportsRelocation, Resolves
 ghost use Rattle.vbtf.specs.Status.{KeepsHandle};
 
 use crate::fault::{CLOSED, Fault, INVALID_ARGUMENT, OUT_OF_MEMORY, report, report_number};
-use crate::handle::{Handle, owner, take_loan, take_table, taken_to_change};
+use crate::handle::{Handle, owner};
 use crate::opened::Opened;
 use crate::refused::report_refused;
+use crate::taken::{take_loan, take_table, take_to_change};
 use btf::{Btf, BtfError};
 use btf_relocate::{RelocationError, Resolved, Target, TargetIndex, candidates_of, resolve};
 use std::alloc::Global;
@@ -78,7 +79,7 @@ pub extern "C" fn vbtf_target_close(alloc: Global, table: &mut Handle)
         × ChangedTo table.old.opened table.new.opened table.old.opened.btf }
     ensures other { table.old.state ≢ 1 → table.new ≡ table.old }
 {
-    if let Some(whole) = taken_to_change(alloc, table) {
+    if let Some(whole) = take_to_change(alloc, table) {
         *table = owner(whole);
     }
 }

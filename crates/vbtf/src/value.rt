@@ -7,7 +7,8 @@ ghost use Rattle.btf_above.specs.Variants.{NamesAreUtf8};
 ghost use Rattle.vbtf.specs.Status.{EndsFinding, EndsFindingOrNoMemory, KeepsHandle, IfLends};
 
 use crate::fault::{CLOSED, Fault, INVALID_ARGUMENT, NO_ITEM, report};
-use crate::handle::{Handle, take_loan};
+use crate::handle::Handle;
+use crate::taken::take_loan;
 use btf::variant_value;
 
 /// The value of the first variant of a name, in the enumeration that a type resolves to: an ENUM, whose values of 32

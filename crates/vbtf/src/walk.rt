@@ -5,7 +5,8 @@ ghost use Rattle.btf_model.specs.Walk.{Resolves, HasSize};
 ghost use Rattle.vbtf.specs.Status.{EndsCall, KeepsHandle};
 
 use crate::fault::{CLOSED, Fault, report};
-use crate::handle::{Handle, take_loan};
+use crate::handle::Handle;
+use crate::taken::take_loan;
 
 /// The size of a type in bytes.
 ///

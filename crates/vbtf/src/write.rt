@@ -6,7 +6,8 @@ ghost use Rattle.btf_model.specs.Text.{text_at};
 ghost use Rattle.vbtf.specs.Status.{Fills, EndsFilling, KeepsHandle, FillsWithoutMemory, IfLends};
 
 use crate::fault::{CLOSED, Fault, NO_ROOM, report};
-use crate::handle::{Handle, take_loan};
+use crate::handle::Handle;
+use crate::taken::take_loan;
 use btf::Btf;
 
 /// Writes the text at a string offset to a buffer, without a zero byte after it, and its length in bytes to `needed`.

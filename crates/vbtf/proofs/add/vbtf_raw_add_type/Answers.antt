@@ -9,7 +9,7 @@ use Rattle.vbtf.proofs.add.vbtf_raw_add_type.Goals as goal
 
 pub returns-in-Err-clause-added : goal.returns-in-Err-clause-added
 returns-in-Err-clause-added c owned low =
-    let changed = c.in-Some-taken_to_change.ensures.2 in
+    let changed = c.in-Some-take_to_change.ensures.2 in
     let old = ap (λ o. o.btf) c.deref_mut.ensures.value ∙ changed.btf in
     let new = c.owner.ensures.1 in
     let table = ap (λ o. o.btf) new ∙ c.in-Err.ensures.err ∙ old in

@@ -10,7 +10,7 @@ use Rattle.vbtf.proofs.split.vbtf_raw_append_split.Goals as goal
 
 pub returns-in-Err-clause-appended : goal.returns-in-Err-clause-appended
 returns-in-Err-clause-appended c owned low =
-    let changed = c.in-Some-taken_to_change.ensures.2 in
+    let changed = c.in-Some-take_to_change.ensures.2 in
     let old = ap (λ o. o.btf) c.deref_mut.ensures.value ∙ changed.btf in
     let new = c.owner.ensures.1 in
     let order : c.in-Some.data_order ≡ order_chosen c.args.order c.args.data.now = c.in-Some.ensures.1 in
