@@ -1,5 +1,5 @@
 -- The relocation of an object for a target table, for C.
-use Rattle.std.specs.Prelude.{◌≡◌, ◌⊎◌, ◌==◌, ℕ, ◌/◌, ◌%◌, Bool, true, false, List, [], length, unwrap_or, flat_map, count_by, None, Result, Ok, Err}
+use Rattle.std.specs.Prelude.{◌≡◌, ◌⊎◌, ◌==◌, ℕ, ◌/◌, ◌%◌, Bool, true, false, List, [], length, unwrap_or, flat_map, count_by, None, Result, Ok, Err, ◌≤◌}
 use Rattle.std.specs.Io.Iter.{u64_saturate}
 use Rattle.btf_elf.specs.declared.error.ObjectError.TheVariants as elf
 use Rattle.btf_loader.specs.Errors.{IsLoaderCause}
