@@ -13,6 +13,6 @@ returns-clause-named c two =
     let kept = c.name_len.ensures.kept in
     let opened : c.name_len.new.table.opened ≡ c.args.table.now.opened = kept.opened ∙ ap (λ (h : Handle). h.opened) now in
     let found = subst (λ (h : Handle). Some c.in-Some.found ≡ option_map length (bytes_at h.opened.btf.strings c.args.offset)) now c.in-Some.ensures.found in
-    let from = subst (λ (o : Opened). AreNamesFrom o.btf.strings c.args.offset c.names_at.result.bytes) opened c.names_at.ensures.2 in
-    let life = c.names_at.ensures.1 ∙ kept.life ∙ ap (λ (h : Handle). h.life) now in
+    let from = subst (λ (o : Opened). AreNamesFrom o.btf.strings c.args.offset c.names_at.result.bytes) opened c.names_at.ensures.1.1 in
+    let life = c.names_at.ensures.1.0 ∙ kept.life ∙ ap (λ (h : Handle). h.life) now in
     inl (refl, is_name c.args.table.now.opened.btf.strings c.args.offset c.args.table.now.life c.in-Some.found c.names_at.result found from life)

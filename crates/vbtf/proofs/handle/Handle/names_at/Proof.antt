@@ -26,7 +26,7 @@ use Rattle.std.proofs.raw_atomic.Calls.{fm}
 use Rattle.std.proofs.raw_atomic.Walks.{leaves}
 use Rattle.std.proofs.alloc.Shapes.{after}
 use Rattle.vbtf.specs.Held.{held}
-use Rattle.vbtf.specs.Lent.{AreNamesFrom}
+use Rattle.vbtf.specs.Lent.{AreLentFrom, AreNamesFrom}
 use Rattle.vbtf.specs.contracts.name.names_from as callee
 use Rattle.vbtf.proofs.name.names_from.Met.{met}
 use Rattle.vbtf.specs.contracts.lent_name.Name as name
@@ -96,6 +96,6 @@ names_at_spec 𝓤 𝓛 𝓜 𝓡 wired =
     -- [the reference, in two parts; its token; the name; nothing; the reference's machine value]
     move ! (5 ∷ 0 ∷ 1 ∷ []) $ move ! (1 ∷ 2 ∷ []) $ fjoin ! $ move ! (1 ∷ 0 ∷ []) $ fjoin ! $ nothing ! $ nothing ! $ fjoin ! $ move ! (1 ∷ 0 ∷ []) $ fjoin ! $
     move ! (1 ∷ 3 ∷ []) $ join ! $
-    let Same : Type 0 = (h ≡ h) × (h.life ≡ h.life) × Found r.now × (length r.now ≡ length r.now) in
-    use0 𝓛 (raw (fact 𝓤 Same)) (fact_i 𝓤 Same (emp 𝓤) (refl, refl, same, refl)) $ keep ! (1 ∷ 2 ∷ 3 ∷ 0 ∷ []) $
+    let Same : Type 0 = (h ≡ h) × AreLentFrom h.opened.btf.strings h.life offset r.now (length r.now) h.life in
+    use0 𝓛 (raw (fact 𝓤 Same)) (fact_i 𝓤 Same (emp 𝓤) (refl, (refl, same, refl))) $ keep ! (1 ∷ 2 ∷ 3 ∷ 0 ∷ []) $
     by ! (leaves 𝓛 f.ended stayed c y w made (h, (tt, tt)) (tt, (tt, tt))))))))))))))
