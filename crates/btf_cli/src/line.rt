@@ -58,7 +58,8 @@ impl Query {
     /// The query in the words after the byte order.
     fn read(words: &[String]) -> Option<Query>
         ensures some { IfSome result (AsksQuery (word_texts words.now)) }
-        ensures none { IfNone result ((query : Query) → AsksQuery (word_texts words.now) query → ⊥) }
+        ensures none { IfNone result
+            ((query : Query) → AsksQuery (word_texts words.now) query → ⊥) }
     {
         match words {
             [word] => match word.as_str() {
@@ -91,7 +92,8 @@ impl<'a> Command<'a> {
     /// The command in the words after the byte order.
     fn read(words: &'a [String]) -> Option<Command<'a>>
         ensures some { IfSome result (AsksCommand (word_texts words.now)) }
-        ensures none { IfNone result ((command : Command) → AsksCommand (word_texts words.now) command
+        ensures none { IfNone result
+            ((command : Command) → AsksCommand (word_texts words.now) command
             → ⊥) }
     {
         let (word, rest) = words.split_first()?;

@@ -189,7 +189,8 @@ impl Frame {
     /// Moves the walk to a position.
     pub fn go_on(&mut self, at: (u32, u32))
         requires { self.old.taken < WALK_LIMIT }
-        ensures { self.new ≡ record self.old { at = at; taken = self.old.taken + 1; parameter = 0 } }
+        ensures { self.new ≡
+            record self.old { at = at; taken = self.old.taken + 1; parameter = 0 } }
     {
         self.at = at;
         self.taken += 1;

@@ -44,7 +44,8 @@ pub struct ProtoPair<'a> {
 /// Compares a pair of ids. Both are resolved, the local one first.
 pub fn position_at<'a>(local: &'a Btf, target: &'a Btf, at: (u32, u32)) -> Position<'a>
     ensures position { PositionIs result (Finds local.now target.now (pair_of at)) }
-    ensures ids { IfPrototypes result (λ ids. ResolvesPair local.now target.now (pair_of at) (Ok ids)) }
+    ensures ids { IfPrototypes result
+        (λ ids. ResolvesPair local.now target.now (pair_of at) (Ok ids)) }
     ensures few { HasFew result }
 {
     let (local_id, local_type) = match resolve(local, at.0) {

@@ -179,7 +179,8 @@ pub fn compare<S: Starts>(
     starts: &mut S,
 ) -> Result<bool, BtfError>
     requires { S.has_added starts.old starts.old [] }
-    ensures { Compares local.now target.now (pair_of root) result (S.has_added starts.old starts.new) }
+    ensures { Compares local.now target.now (pair_of root) result
+        (S.has_added starts.old starts.new) }
 {
     let alloc = allocator_of(local);
     // The contract's answer exists only if each record has a kind. A use of a table proves that its records have.

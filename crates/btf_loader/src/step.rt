@@ -69,7 +69,8 @@ impl<'a, 'o, 't> Loader<'a, 'o, 't> {
     ) -> Result<Vec<SectionOutcomes>, LoaderError>
         requires named { HasIndices self.now.named.now self.now.object.now }
         requires placed { HasPlaces self.now.places.now self.now.object.now.sections }
-        requires readable { IfSome self.now.readable_end (IsReadableEnd self.now.local.now.strings) }
+        requires readable { IfSome self.now.readable_end
+            (IsReadableEnd self.now.local.now.strings) }
         ensures relocated { IfOk result (λ r. (map outcomes_of r.items, file.new)
             ≡ file_relocated self.now file.old (map relocation relocations.now)) }
         ensures refused { IfOk result (λ r. self.now.refusals ≡ Refuse
@@ -96,7 +97,8 @@ impl<'a, 'o, 't> Loader<'a, 'o, 't> {
     ) -> Result<Option<Vec<Outcome>>, LoaderError>
         requires named { HasIndices self.now.named.now self.now.object.now }
         requires placed { HasPlaces self.now.places.now self.now.object.now.sections }
-        requires readable { IfSome self.now.readable_end (IsReadableEnd self.now.local.now.strings) }
+        requires readable { IfSome self.now.readable_end
+            (IsReadableEnd self.now.local.now.strings) }
         ensures relocated { IfOk result
             (λ r. (option_map (λ v. v.items) r, file.new)
             ≡ section_relocated self.now file.old (relocation section.now)) }
@@ -159,7 +161,8 @@ impl<'a, 'o, 't> Loader<'a, 'o, 't> {
     /// read to its end.
     fn index_of(&self, name_offset: u32) -> Result<Option<usize>, LoaderError>
         requires named { HasIndices self.now.named.now self.now.object.now }
-        requires readable { IfSome self.now.readable_end (IsReadableEnd self.now.local.now.strings) }
+        requires readable { IfSome self.now.readable_end
+            (IsReadableEnd self.now.local.now.strings) }
         ensures index { IfOk result (λ index. index ≡ index_at
             (loader_setting self.now) self.now.object.now name_offset) }
         ensures readable { OnOk result

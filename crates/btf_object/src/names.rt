@@ -1,4 +1,5 @@
-//! The names of sections and symbols that a rewrite may ask for. At most as many bytes of a name are read as it may have.
+//! The names of sections and symbols that a rewrite may ask for. At most as many bytes of a name are read as it may
+//! have.
 
 ghost use Rattle.std.specs.Prelude.{◌≡◌, true, false, IfSome, IfNone};
 ghost use Rattle.btf_elf_model.specs.Object as elf;

@@ -90,7 +90,8 @@ pub fn finalize_table<H: BuildHasher + Clone + Drop>(
     kernel: &Kernel,
     hash_builder: H,
 ) -> Result<(Vec<u8>, ArrayVec<FeatureAnswer, 8>), BtfError>
-    ensures made { IfOk result (λ r. IsFinalizedBlob object.now table.now (kernel_has kernel.now) r.0.items r.1.items) }
+    ensures made { IfOk result (λ r.
+        IsFinalizedBlob object.now table.now (kernel_has kernel.now) r.0.items r.1.items) }
     ensures refused { IfErr result (λ e. IfSome (refusal_of e)
         (RefusesFinalized object.now table.now (kernel_has kernel.now))) }
 {

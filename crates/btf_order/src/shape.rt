@@ -138,8 +138,8 @@ fn single(id: u32, through_pointer: bool, index: usize) -> Option<Node>
     })
 }
 
-/// Whether the type has a place in the order of declarations. A type without a name has none, but an ENUM, ENUM64 or FWD
-/// to which nothing refers is declared alone.
+/// Whether the type has a place in the order of declarations. A type without a name has none, but an ENUM, ENUM64 or
+/// FWD to which nothing refers is declared alone.
 pub fn is_listed(btf_type: &BtfType, is_referenced: bool) -> bool
     ensures all { IsTrue (is_declared_by (kind_of (record_of btf_type.now).info)
         (record_of btf_type.now)) → result ≡ true }

@@ -232,6 +232,8 @@ impl BtfType {
     }
 
     /// A copy of the record and its fallback. `OutOfMemory` is the only error.
+    // A function clears the places of all its results on entry: in a loop over types, once and not for each type.
+    #[inline(always)]
     pub fn try_clone(&self) -> Result<Self, BtfError>
         ensures record { IsOrNoMemory record_of result (Ok (record_of self.now)) }
         ensures fallback { IsOrNoMemory fallback_of result (Ok (fallback_of self.now)) }

@@ -246,6 +246,7 @@ impl Union {
     }
 
     /// A copy of the record. `OutOfMemory` is the only error.
+    #[inline(never)]
     pub fn try_clone(&self) -> Result<Self, BtfError>
         ensures { IsOrNoMemory (λ r. r) result (Ok self.now) }
     {

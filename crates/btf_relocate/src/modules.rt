@@ -1,7 +1,7 @@
 //! Records for a kernel with modules.
 //!
-//! A type that the kernel's table does not have may be in the tables of modules. The tables of modules are searched only
-//! if the kernel's table has no candidate. All candidates of all modules must then have the same value.
+//! A type that the kernel's table does not have may be in the tables of modules. The tables of modules are searched
+//! only if the kernel's table has no candidate. All candidates of all modules must then have the same value.
 
 ghost use Rattle.std.specs.Prelude.{◌≡◌, map, None, IfOk};
 ghost use Rattle.btf_relocate_model.specs.Modules as model;
@@ -85,8 +85,8 @@ fn find_in<'a, 't>(
 
 /// The value of a record for a kernel with modules; see [`resolve`], which does the same for one table.
 ///
-/// `candidates` are those of the record's type, as [`candidates_among`] gives them. If at least one of them matches, the
-/// others are removed. All that match must have the same value, also those in different tables.
+/// `candidates` are those of the record's type, as [`candidates_among`] gives them. If at least one of them matches,
+/// the others are removed. All that match must have the same value, also those in different tables.
 pub fn resolve_among(
     alloc: Global,
     local: &Btf,
@@ -94,7 +94,8 @@ pub fn resolve_among(
     record: &[u32; 4],
     candidates: &mut Candidates<'_, '_>,
 ) -> Result<Resolved, RelocationError>
-    ensures { ResolvesAmong local.now targets.now «record».now candidates.old candidates.new result }
+    ensures { ResolvesAmong local.now targets.now «record».now
+        candidates.old candidates.new result }
 {
     match candidates {
         Candidates::InKernel(ids) => resolve(alloc, local, targets.kernel, record, ids),

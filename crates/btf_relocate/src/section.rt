@@ -47,7 +47,8 @@ pub fn relocate_section(
     ensures records { IfOk result (λ v. RelocatesSection policy local.now target.now code.old
         records.now v.items code.new) }
     ensures defined { IfOk result (λ v. (v.items, code.new)
-        ≡ relocated_section (setting local.now target.now) (is_shared policy) code.old records.now) }
+        ≡ relocated_section (setting local.now target.now)
+        (is_shared policy) code.old records.now) }
 {
     let targets = Targets {
         kernel: target,
@@ -56,7 +57,8 @@ pub fn relocate_section(
     relocate_section_among(alloc, local, &targets, records, code, policy)
 }
 
-/// Relocates the code of a section for a kernel with modules; see [`relocate_section`], which does the same for one table.
+/// Relocates the code of a section for a kernel with modules; see [`relocate_section`], which does the same for one
+/// table.
 ///
 /// `OutOfMemory` is the only error of the call, and may leave some instructions patched.
 pub fn relocate_section_among<'a, 't>(
@@ -125,8 +127,8 @@ fn relocate(
     patch(code, record[0] as usize, local.endianness(), &resolved)
 }
 
-/// The candidates of a type of the program's table, in a list for [`resolve`](crate::resolve); none if the id has no type.
-/// `OutOfMemory` is the only error.
+/// The candidates of a type of the program's table, in a list for [`resolve`](crate::resolve); none if the id has no
+/// type. `OutOfMemory` is the only error.
 pub fn candidates_of(
     alloc: Global,
     local: &Btf,

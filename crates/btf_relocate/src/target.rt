@@ -207,7 +207,8 @@ pub fn comparison_number(kind: BtfKind) -> u32
 
 /// The types that have a name, in rising order of their ids.
 fn types_with_name(alloc: Global, table: &Btf) -> Result<Vec<Entry<'_>>, AllocError>
-    ensures { IfOk result (λ entries. AreEntries table.now entries.items (ids_with_name table.now)) }
+    ensures { IfOk result (λ entries. AreEntries table.now entries.items
+        (ids_with_name table.now)) }
 {
     let mut entries = Vec::with_capacity(alloc, type_count(table) as usize)?;
     for type_id in 1..type_count(table) {

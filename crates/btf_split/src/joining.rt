@@ -42,8 +42,8 @@ pub fn parse_split(
 /// types and bytes of strings removes it, so a program can read the modules of a kernel one after another over one
 /// table.
 ///
-/// The table then has the types and the strings that `parse_split` returns, and keeps its byte order, magic, version and
-/// flags.
+/// The table then has the types and the strings that `parse_split` returns, and keeps its byte order, magic, version
+/// and flags.
 ///
 /// Fails as `parse_split`. An error leaves the table unchanged.
 pub fn append_split(table: &mut Btf, data: &[u8], endianness: Endianness) -> Result<(), BtfError>
@@ -59,8 +59,8 @@ pub fn append_split(table: &mut Btf, data: &[u8], endianness: Endianness) -> Res
 /// first `base_strings`.
 ///
 /// Fails with `UnknownBtfType` of `base_types` if it is 0 or the table has fewer types, and then with
-/// `InvalidStringOffset` of `base_strings` if the table has fewer bytes of strings. An error leaves the table unchanged.
-/// Takes time linear in what is removed, and allocates no memory.
+/// `InvalidStringOffset` of `base_strings` if the table has fewer bytes of strings. An error leaves the table
+/// unchanged. Takes time linear in what is removed, and allocates no memory.
 pub fn truncate(table: &mut Btf, base_types: u32, base_strings: u32) -> Result<(), BtfError>
     ensures cut { Meets (λ _. table.new) result (λ answer. answer
         ≡ over_base base_types base_strings table.old (cut base_types base_strings table.old)) }
@@ -71,8 +71,8 @@ pub fn truncate(table: &mut Btf, base_types: u32, base_strings: u32) -> Result<(
     Ok(())
 }
 
-/// Fails if a table has no base with these numbers of types and of bytes of strings: with `UnknownBtfType`, or else with
-/// `InvalidStringOffset`.
+/// Fails if a table has no base with these numbers of types and of bytes of strings: with `UnknownBtfType`, or else
+/// with `InvalidStringOffset`.
 pub(crate) fn check_base(table: &Btf, base_types: u32, base_strings: u32) -> Result<(), BtfError>
     ensures checked { Meets (λ u. u) result (λ answer. answer
         ≡ over_base base_types base_strings table.now tt) }

@@ -278,6 +278,7 @@ impl Btf {
     /// Reports the first error on the walk: `UnknownBtfType` of an id that has no type, `UnexpectedBtfType` of the id
     /// of an Unknown, a FWD or a FUNC, `InvalidTypeInfo` for a product of lengths or a size that exceeds 32 bits, and
     /// `MaximumTypeDepthReached` of `type_id` if the first 32 types give no size. Allocates no memory.
+    #[inline(always)]
     pub fn type_size(&self, type_id: u32) -> Result<usize, BtfError>
         ensures { Meets (λ n. n) result (HasSize self.now.records type_id) }
     {

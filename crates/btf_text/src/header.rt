@@ -48,9 +48,9 @@ pub enum HeaderTypes<'a> {
 
 /// Writes types of a table as a C header, from which a compiler makes the same types.
 ///
-/// The text equals the text of `bpftool btf dump file FILE format c` of bpftool 7.1, except where that does not give the
-/// same types: names that are no identifiers of C are escaped, an enumeration of 1, 2 or 8 bytes has the attribute for
-/// its size, and the type of argument lists of another machine is written out.
+/// The text equals the text of `bpftool btf dump file FILE format c` of bpftool 7.1, except where that does not give
+/// the same types: names that are no identifiers of C are escaped, an enumeration of 1, 2 or 8 bytes has the attribute
+/// for its size, and the type of argument lists of another machine is written out.
 ///
 /// The errors are `Table` with
 ///
@@ -61,8 +61,8 @@ pub enum HeaderTypes<'a> {
 /// - `UnexpectedBtfType` of a type to which a declaration refers and which is no type of C, such as a FUNC;
 ///
 /// and `TooLong` if types without a name are used too often or gaps are too large, `Write` if the writer fails, and
-/// `OutOfMemory`. Memory is linear in the records of the table and in its longest name. Time is linear in the records and
-/// in the text, times the logarithm of the number of names.
+/// `OutOfMemory`. Memory is linear in the records of the table and in its longest name. Time is linear in the records
+/// and in the text, times the logarithm of the number of names.
 pub fn write_header<W: Write>(
     alloc: Global,
     table: &Btf,

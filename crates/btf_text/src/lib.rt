@@ -1,5 +1,5 @@
-//! A table of BTF as text: each type in the form of `bpftool`, the types as a C header, the layout of a structure in the
-//! form of `pahole`, and the contents of `.BTF.ext`.
+//! A table of BTF as text: each type in the form of `bpftool`, the types as a C header, the layout of a structure in
+//! the form of `pahole`, and the contents of `.BTF.ext`.
 //!
 //! Each call writes to any `std::fmt::Write`. `TextBuffer` implements it over a writer of bytes.
 #![tactic(auto)]

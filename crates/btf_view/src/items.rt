@@ -97,7 +97,8 @@ impl Listed for BtfEnum {
 impl Listed for BtfEnum64 {
     type Form = Variant;
 
-    ghost form = { λ info v. variant_form info 64 v.name_offset (v.value_high * 2 ^ 32 + v.value_low) };
+    ghost form = { λ info v. variant_form info 64 v.name_offset
+        (v.value_high * 2 ^ 32 + v.value_low) };
 
     ghost forms_in = { wide_variant_forms };
 

@@ -355,8 +355,8 @@ pub fn read_over<'a>(
     blame(file, input.whole_table_over(rt.alloc(), base))
 }
 
-/// The base of the table in a file: the table of the file that is given as the base; or else, for a module of the running
-/// kernel, the kernel's table, which is reported.
+/// The base of the table in a file: the table of the file that is given as the base; or else, for a module of the
+/// running kernel, the kernel's table, which is reported.
 fn read_base<'a>(
     rt: &HostRuntime,
     file: &'a str,

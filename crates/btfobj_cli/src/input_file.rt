@@ -92,8 +92,8 @@ impl<'a> InputFile<'a> {
         Ok(Btf::parse(alloc, bytes, self.endianness())?)
     }
 
-    /// The table over its base: the types of the base, and then those of the file. Without a base it is the file's table
-    /// alone, as `table` returns it.
+    /// The table over its base: the types of the base, and then those of the file. Without a base it is the file's
+    /// table alone, as `table` returns it.
     ///
     /// The error is `DistilledBase` for an object with a section `.BTF.base`. With a base it is then `NoSection` if an
     /// object has no table, or `Table` with the error of `parse_split`; `OutOfMemory` at any time.
@@ -121,8 +121,8 @@ impl<'a> InputFile<'a> {
         }
     }
 
-    /// The table over its base, as `table_over` returns it, with its errors. Without a base the error is `Split` if names
-    /// or ids of its types are not in it.
+    /// The table over its base, as `table_over` returns it, with its errors. Without a base the error is `Split` if
+    /// names or ids of its types are not in it.
     pub fn whole_table_over(&self, alloc: Global, base: Option<&Btf>) -> Result<Btf, Fault>
         ensures { IfOk result (λ table. MatchOption base.entry (HasFileTable self.now table)
             (λ base. HasSplitTable self.now base.now table)) }

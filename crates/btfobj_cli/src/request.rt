@@ -39,8 +39,8 @@ pub struct Relocation<'a> {
     pub form: Form,
 }
 
-/// The request of a command line. A file `-` is standard input, and an output `-` is standard output. The file `base` has
-/// the base of a split table.
+/// The request of a command line. A file `-` is standard input, and an output `-` is standard output. The file `base`
+/// has the base of a split table.
 #[derive(Debug, Drop)]
 pub enum Request<'a> {
     /// Dumps the types of a file's table.

@@ -52,8 +52,8 @@ pub fn sanitize<H: BuildHasher + Clone + Drop>(
     sanitize_input(alloc, &input, rewrite, hash_builder)
 }
 
-/// The bytes of the table of a file: of the section `.BTF` of an object, or of the file. The errors are `UnknownFormat`,
-/// `Object`, `NoSection` and `OutOfMemory`.
+/// The bytes of the table of a file: of the section `.BTF` of an object, or of the file. The errors are
+/// `UnknownFormat`, `Object`, `NoSection` and `OutOfMemory`.
 pub fn table_alone(alloc: Global, file: &[u8]) -> Result<Vec<u8>, Fault>
     ensures { IfOk result (λ table. IsTableOf file.now table.items) }
 {

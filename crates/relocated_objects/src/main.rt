@@ -1,7 +1,7 @@
-//! Relocates the object `prog.o` for the table `kernel.btf`, and writes the code of its two sections of code. The expected
-//! output is the code that libbpf 1.1.2 makes of the same files (`bpf_program__insns` after `bpf_object__load`). clang 14
-//! made both files of `prog.c` and `kernel.c` (`-target bpf -g -O2`); the table was taken out with `llvm-objcopy`. The
-//! object that is also rewritten for Linux 5.4 has the same code.
+//! Relocates the object `prog.o` for the table `kernel.btf`, and writes the code of its two sections of code. The
+//! expected output is the code that libbpf 1.1.2 makes of the same files (`bpf_program__insns` after
+//! `bpf_object__load`). clang 14 made both files of `prog.c` and `kernel.c` (`-target bpf -g -O2`); the table was taken
+//! out with `llvm-objcopy`. The object that is also rewritten for Linux 5.4 has the same code.
 #![tactic(auto)]
 
 use btf_elf::Object;

@@ -44,8 +44,8 @@ pub extern "C" fn vbtf_lent_alignment(
     }
 }
 
-/// Writes the alignments in bytes of the types from an id on, in the order of the ids, to a buffer: as many as there are
-/// types and as fit. Their number goes to `count`; it is 0 if no type has the id. A type for which
+/// Writes the alignments in bytes of the types from an id on, in the order of the ids, to a buffer: as many as there
+/// are types and as fit. Their number goes to `count`; it is 0 if no type has the id. A type for which
 /// `vbtf_lent_alignment` returns an error has 0.
 ///
 /// Status 20 if an allocation fails, and 101 if the handle's state is not 2; the buffer is then unchanged.

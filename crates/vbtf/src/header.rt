@@ -16,9 +16,9 @@ const TOO_LONG: u32 = 111;
 
 /// Writes all types of a table as a C header to a buffer, and the length of the text in bytes to `needed`.
 ///
-/// Status 100 if the buffer is too small; 9 for an id that has no type, 10 for a type that no C declaration can have, 12
-/// for a type that contains itself or has too many types around it, 20 if an allocation fails, 101 if the handle's state
-/// is not 2, and 111 if the text would be too long. After an error the buffer is unchanged.
+/// Status 100 if the buffer is too small; 9 for an id that has no type, 10 for a type that no C declaration can have,
+/// 12 for a type that contains itself or has too many types around it, 20 if an allocation fails, 101 if the handle's
+/// state is not 2, and 111 if the text would be too long. After an error the buffer is unchanged.
 #[unsafe(no_mangle)]
 pub extern "C" fn vbtf_lent_header(
     alloc: Global,

@@ -18,8 +18,8 @@ use btf_relocate::Target;
 use btf_table::name_bytes;
 use std::alloc::Global;
 
-/// The least id above 0 of a type with this kind and name, from the open index of the table. The kind is a number from 0
-/// to 19, and the name has no zero byte at its end.
+/// The least id above 0 of a type with this kind and name, from the open index of the table. The kind is a number from
+/// 0 to 19, and the name has no zero byte at its end.
 ///
 /// Names are compared by their bytes, so names that cannot be read are passed over. The search takes time in the
 /// logarithm of the number of types, and in the number of types with the same name.

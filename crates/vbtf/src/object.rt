@@ -51,7 +51,8 @@ pub extern "C" fn vbtf_raw_sanitize_object(
     ensures sanitized { EndsSanitizingFor kernel.now placeholder.now object.now out.old out.new
         needed.new asked.new fault.new result }
     // With the new table the object's section `.BTF.ext` has the same contents as with the old table.
-    ensures ext { IsUtf8 placeholder.now → result ≡ 0 → WritesKeepingExt object.now out.old out.new needed.new result }
+    ensures ext { IsUtf8 placeholder.now → result ≡ 0
+        → WritesKeepingExt object.now out.old out.new needed.new result }
     ensures unreadable { (IsUtf8 placeholder.now → ⊥)
         → (result ≡ INVALID_ARGUMENT) × (out.new ≡ out.old) }
 {

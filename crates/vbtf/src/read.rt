@@ -86,7 +86,8 @@ pub extern "C" fn vbtf_lent_find(
 ) -> u32
     ensures found { EndsFindingName table.old name.now kind id.new fault.new result }
     ensures not_utf8 { table.old.state ≡ 2 → (IsUtf8 name.now → ⊥) → result ≡ INVALID_ARGUMENT }
-    ensures no_kind { table.old.state ≡ 2 → slice_get kinds kind ≡ None → result ≡ INVALID_ARGUMENT }
+    ensures no_kind { table.old.state ≡ 2 → slice_get kinds kind ≡ None
+        → result ≡ INVALID_ARGUMENT }
     ensures closed { table.old.state ≢ 2 → result ≡ CLOSED }
     ensures kept { KeepsHandle table.old table.new }
 {

@@ -111,7 +111,8 @@ fn relocate(
     tally: &mut Tally,
     fault: &mut Fault,
 ) -> u32
-    ensures relocated { options ≤ 3 → EndsRelocating result object.now opened.now.btf options out.old
+    ensures relocated { options ≤ 3 → EndsRelocating result object.now opened.now.btf
+        options out.old
         out.new needed.new tally.old tally.new fault.new }
     ensures options { 3 < options
         → (result ≡ INVALID_ARGUMENT) × (out.new ≡ out.old) × (tally.new ≡ tally.old) }

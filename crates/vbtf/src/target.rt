@@ -53,8 +53,8 @@ pub struct Relocated {
 /// Opens an index of the types of the table that a handle owns, which `vbtf_lent_relocate` and
 /// `vbtf_lent_relocate_object` search. It has 4 bytes for each type that has a name.
 ///
-/// A call that changes the table closes the index. Status 20 if an allocation fails, 101 if the handle's state is not 1,
-/// and 102 if the table has an open index; the handle is then unchanged.
+/// A call that changes the table closes the index. Status 20 if an allocation fails, 101 if the handle's state is not
+/// 1, and 102 if the table has an open index; the handle is then unchanged.
 #[unsafe(no_mangle)]
 pub extern "C" fn vbtf_raw_target_open(alloc: Global, table: &mut Handle, fault: &mut Fault) -> u32
     ensures opened { table.old.state ≡ 1 → EndsIndexing result table.old table.new fault.new }

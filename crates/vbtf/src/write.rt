@@ -26,7 +26,8 @@ pub extern "C" fn vbtf_lent_text(
         (λ a. a ≡ text_at t.strings offset)) }
     // Nothing is allocated for a text that is UTF-8.
     ensures no_memory { table.old.state ≡ 2
-        → FillsWithoutMemory table.old.opened.btf.strings offset out.old out.new needed.new fault.new result }
+        → FillsWithoutMemory table.old.opened.btf.strings offset
+        out.old out.new needed.new fault.new result }
     ensures closed { table.old.state ≢ 2 → (result ≡ CLOSED) × (out.new ≡ out.old) }
     ensures kept { KeepsHandle table.old table.new }
 {
@@ -66,7 +67,8 @@ pub extern "C" fn vbtf_lent_bytes(
 fn write_text(table: &Btf, offset: u32, out: &mut [u8], needed: &mut u64, fault: &mut Fault) -> u32
     ensures text { EndsFilling result out.old out.new needed.new fault.new
         (λ answer. answer ≡ text_at table.now.strings offset) }
-    ensures no_memory { FillsWithoutMemory table.now.strings offset out.old out.new needed.new fault.new result }
+    ensures no_memory { FillsWithoutMemory table.now.strings offset
+        out.old out.new needed.new fault.new result }
 {
     match table.string_at(offset) {
         Ok(text) => fill(text.as_str().as_bytes(), out, needed),

@@ -140,7 +140,8 @@ fn lay_out(
     alloc: Global,
     externs: &[Extern<'_>],
 ) -> Result<Option<(Vec<DataSecEntry>, u32)>, AllocError>
-    ensures some { IfOk result (λ o. IfSome o (λ made. AreLaidOut externs.now made.0.items made.1)) }
+    ensures some { IfOk result (λ o. IfSome o
+        (λ made. AreLaidOut externs.now made.0.items made.1)) }
     ensures none { IfOk result (λ o. IfNone o (2 ^ 32 ≤ total (map model_extern externs.now))) }
 {
     let mut entries = Vec::with_capacity(alloc, externs.len())?;

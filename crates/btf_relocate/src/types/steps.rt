@@ -100,7 +100,8 @@ fn compatible_step<'t>(is_pointee: bool, one: &'t BtfType, other: &'t BtfType) -
 
 /// What the rule `Compatible` finds at two types that lead to others.
 fn compatible_through<'t>(is_pointee: bool, one: &'t BtfType, other: &'t BtfType) -> Step<'t>
-    ensures { step_view result ≡ by_kinds (model.compatible_through is_pointee) (record_of one.now) (record_of other.now) }
+    ensures { step_view result ≡ by_kinds (model.compatible_through is_pointee)
+        (record_of one.now) (record_of other.now) }
 {
     // Only a use of the kinds proves that the info words have them.
     let _ = (one.kind(), other.kind());
@@ -127,7 +128,8 @@ fn exact_step<'t>(
     one: &'t BtfType,
     other: &'t BtfType,
 ) -> Result<Step<'t>, RelocationError>
-    ensures { GivesBy step_view (by_kinds (model.exact_step local.now target.now is_pointee) (record_of one.now) (record_of other.now)) result }
+    ensures { GivesBy step_view (by_kinds (model.exact_step local.now target.now is_pointee)
+        (record_of one.now) (record_of other.now)) result }
 {
     // Only a use of the kinds proves that the info words have them.
     let _ = (one.kind(), other.kind());
@@ -164,7 +166,8 @@ fn enumeration_size(btf_type: &BtfType) -> Option<u32>
 
 /// What the rule `Matches` finds at two types that are not both enumerations.
 fn matches_step<'t>(is_pointee: bool, one: &'t BtfType, other: &'t BtfType) -> Step<'t>
-    ensures { step_view result ≡ by_kinds (model.matches_by is_pointee) (record_of one.now) (record_of other.now) }
+    ensures { step_view result ≡ by_kinds (model.matches_by is_pointee)
+        (record_of one.now) (record_of other.now) }
 {
     // Only a use of the kinds proves that the info words have them.
     let _ = (one.kind(), other.kind());
@@ -187,7 +190,8 @@ fn matches_step<'t>(is_pointee: bool, one: &'t BtfType, other: &'t BtfType) -> S
 
 /// What the rule `Matches` finds at two types of which none or one is a STRUCT, a UNION or a FWD, or both are.
 fn step_of_declared<'t>(is_pointee: bool, one: &'t BtfType, other: &'t BtfType) -> Step<'t>
-    ensures { step_view result ≡ by_kinds (model.declared_by is_pointee) (record_of one.now) (record_of other.now) }
+    ensures { step_view result ≡ by_kinds (model.declared_by is_pointee)
+        (record_of one.now) (record_of other.now) }
 {
     // Only a use of the kinds proves that the info words have them.
     let _ = (one.kind(), other.kind());

@@ -72,6 +72,7 @@ enum Extent {
 }
 
 /// The size of a type in bytes, on the walk over arrays and types that refer to one other type.
+#[inline(always)]
 pub fn size(types: &[BtfType], type_id: u32) -> Result<u32, BtfError>
     ensures { Meets (λ n. n) result (HasSize (map record_of types.now) type_id) }
 {
@@ -131,5 +132,9 @@ fn product(a: u32, b: u32) -> Result<u32, BtfError>
         (λ n. (n ≡ a * b) × (a * b < 2 ^ 32))
         (λ e. (2 ^ 32 ≤ a * b) × (e ≡ BtfError.InvalidTypeInfo)) }
 {
-    a.checked_mul(b).ok_or(BtfError::InvalidTypeInfo)
+    // By a match: `ok_or` would be a call for each type.
+    match a.checked_mul(b) {
+        Some(product) => Ok(product),
+        None => Err(BtfError::InvalidTypeInfo),
+    }
 }

@@ -20,7 +20,8 @@ pub struct Selection<'a> {
 }
 
 impl Selection<'_> {
-    /// The ids of the selected types of a table, in rising order; id 0 is none of them. `OutOfMemory` is the only error.
+    /// The ids of the selected types of a table, in rising order; id 0 is none of them. `OutOfMemory` is the only
+    /// error.
     pub fn ids(&self, table: &Btf) -> Result<Vec<u32>, TextError> {
         let mut ids = Vec::new(allocator_of(table));
         for (id, btf_type) in (0..type_count(table)).zip(table.types()) {

@@ -36,8 +36,8 @@ fn inner_of(btf_type: &BtfType) -> Option<u32> {
 
 /// Sets the chain of a draft to what is around the base of a type, and returns the base.
 ///
-/// The errors are `Table` with `UnknownBtfType` of an unknown id, `Table` with `MaximumTypeDepthReached` if the first 32
-/// types refer to another one, and `OutOfMemory`.
+/// The errors are `Table` with `UnknownBtfType` of an unknown id, `Table` with `MaximumTypeDepthReached` if the first
+/// 32 types refer to another one, and `OutOfMemory`.
 pub fn read_chain<'a, W: Write>(
     draft: &mut Draft<'a, W>,
     type_id: u32,

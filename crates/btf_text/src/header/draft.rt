@@ -10,9 +10,9 @@ use btf_table::Btf;
 use std::alloc::Global;
 use std::fmt::Write;
 
-/// The number of steps of a header beyond those for the records: parts of declarations, and bit-fields that fill gaps. In
-/// C, each type without a name is used once. This limit bounds the output for a hostile table that uses one many times,
-/// or has structures with large gaps.
+/// The number of steps of a header beyond those for the records: parts of declarations, and bit-fields that fill gaps.
+/// In C, each type without a name is used once. This limit bounds the output for a hostile table that uses one many
+/// times, or has structures with large gaps.
 const MORE_STEPS: u64 = 1 << 24;
 
 /// The maximum number of steps for a byte of a record: a member of 12 bytes has at most 32 pointers, arrays and
@@ -63,8 +63,8 @@ pub struct Draft<'a, W> {
     pub tasks: Vec<Task<'a>>,
     /// The pointers, arrays, prototypes and modifiers around the base of a type, the outermost first.
     pub chain: Vec<&'a BtfType>,
-    /// The TYPEDEF of the compiler's type of argument lists, if it is the type of another machine than BPF. The type that
-    /// it is for is written in its place.
+    /// The TYPEDEF of the compiler's type of argument lists, if it is the type of another machine than BPF. The type
+    /// that it is for is written in its place.
     pub argument_list: Option<u32>,
     alignments: Alignments,
     steps_left: u64,
@@ -112,7 +112,8 @@ impl<'a, W: Write> Draft<'a, W> {
         Ok(())
     }
 
-    /// The type that is written in place of a type: the type that the TYPEDEF `argument_list` is for, or the type itself.
+    /// The type that is written in place of a type: the type that the TYPEDEF `argument_list` is for, or the type
+    /// itself.
     pub fn in_place_of(&self, type_id: u32) -> u32 {
         if self.argument_list != Some(type_id) {
             return type_id;

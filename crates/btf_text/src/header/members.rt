@@ -68,8 +68,8 @@ pub fn begin_members<'a, W: Write>(
     Ok(())
 }
 
-/// Whether a STRUCT or UNION has to be packed: a member is at no multiple of its alignment, or the size is no multiple of
-/// the largest alignment.
+/// Whether a STRUCT or UNION has to be packed: a member is at no multiple of its alignment, or the size is no multiple
+/// of the largest alignment.
 fn is_packed<W: Write>(draft: &Draft<'_, W>, group: &Group<'_>) -> bool {
     let mut largest = 1;
     for member in group.members {
@@ -83,8 +83,8 @@ fn is_packed<W: Write>(draft: &Draft<'_, W>, group: &Group<'_>) -> bool {
     u64::from(group.size) % largest.max(1) != 0
 }
 
-/// Writes the next members of a STRUCT or UNION, up to the first whose declaration has tasks, or the brace after the last
-/// one.
+/// Writes the next members of a STRUCT or UNION, up to the first whose declaration has tasks, or the brace after the
+/// last one.
 pub fn write_next_members<'a, W: Write>(
     draft: &mut Draft<'a, W>,
     state: &Members<'a>,
@@ -210,8 +210,8 @@ fn end_members<W: Write>(draft: &mut Draft<'_, W>, state: &Members<'_>) -> Resul
     Ok(())
 }
 
-/// Writes the attribute that makes a UNION as large as it is, if its members are smaller: the least alignment that gives
-/// the size. `bpftool` 7.1 leaves the attribute out.
+/// Writes the attribute that makes a UNION as large as it is, if its members are smaller: the least alignment that
+/// gives the size. `bpftool` 7.1 leaves the attribute out.
 fn write_alignment<W: Write>(
     draft: &mut Draft<'_, W>,
     state: &Members<'_>,

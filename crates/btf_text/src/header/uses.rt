@@ -1,8 +1,8 @@
 //! The names of a name space that are used, and how often.
 //!
 //! A name is known by its spelling, which is not stored, so that memory does not depend on the lengths of names. The
-//! uses are in the order of hashes, so that the table is read only where two hashes are equal. These are in the order of
-//! spellings, so that a table whose names have equal hashes takes no more comparisons.
+//! uses are in the order of hashes, so that the table is read only where two hashes are equal. These are in the order
+//! of spellings, so that a table whose names have equal hashes takes no more comparisons.
 
 use crate::error::TextError;
 use crate::header::identifier::{add_escaped, is_identifier};
@@ -94,8 +94,8 @@ impl Uses {
         }
     }
 
-    /// Counts a use of the name at a string offset, which is written as this text, and returns its number. A type that is
-    /// only declared has the same number as the first one of its tag.
+    /// Counts a use of the name at a string offset, which is written as this text, and returns its number. A type that
+    /// is only declared has the same number as the first one of its tag.
     pub fn count(
         &mut self,
         table: &Btf,
@@ -185,8 +185,8 @@ impl Uses {
         Ok(number)
     }
 
-    /// Whether a name that is not used was written for another name with its number. A number that was passed over is in
-    /// a name that is used.
+    /// Whether a name that is not used was written for another name with its number. A number that was passed over is
+    /// in a name that is used.
     fn is_numbered(&mut self, table: &Btf, name: &Spelling<'_>) -> Result<bool, TextError> {
         let Some((text, number)) = split_number(name.text) else {
             return Ok(false);

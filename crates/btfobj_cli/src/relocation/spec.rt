@@ -149,8 +149,8 @@ impl<'a> Spec<'a> {
         write!(f, "{separator}{}", name.as_str())
     }
 
-    /// Writes the names and indices that an access goes through, and returns the first bit of the place that it leads to;
-    /// None if it leads nowhere.
+    /// Writes the names and indices that an access goes through, and returns the first bit of the place that it leads
+    /// to; None if it leads nowhere.
     fn write_path<W: fmt::Write>(
         &self,
         f: &mut fmt::Formatter<W>,
