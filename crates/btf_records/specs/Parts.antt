@@ -14,18 +14,18 @@ use Rattle.btf_records.specs.declared.union.Parts.TheVariants.{Alone, InsteadOf}
 
 -- the first three words of a UNION
 abbrev pub head_of : Parts → Head
-head_of (Alone head members) = head
-head_of (InsteadOf head fallback members) = head
+head_of (Alone name info size members) = record { name = name; info = info; third = size }
+head_of (InsteadOf name info size fallback members) = record { name = name; info = info; third = size }
 
 -- the members of a UNION
 abbrev pub parts_members : Parts → List BtfMember
-parts_members (Alone head members) = items_of members
-parts_members (InsteadOf head fallback members) = members.items
+parts_members (Alone name info size members) = items_of members
+parts_members (InsteadOf name info size fallback members) = members.items
 
 -- the fallback of a UNION
 abbrev pub kept_of : Parts → Option Fallback
-kept_of (Alone head members) = None
-kept_of (InsteadOf head fallback members) = Some (fallback_value fallback)
+kept_of (Alone name info size members) = None
+kept_of (InsteadOf name info size fallback members) = Some (fallback_value fallback)
 
 -- a UNION of this name, size and number of members, with these members, and the ENUM64 that it replaces, if any
 abbrev pub union_with : ℕ → ℕ → ℕ → List BtfMember → Option Enum64Fallback → UnionRecord

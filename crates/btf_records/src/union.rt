@@ -23,11 +23,22 @@ use std::marker::Model;
 
 /// The words and members of a union, and the ENUM64 that it replaces, if there is one. Most unions replace none, and
 /// then the space for a fallback stores a few members. The words are in the enum, because they fill the space after its
-/// tag.
+/// tag. They are no `Head`: with a `Head` there, a copy of a `BtfType` would first clear one for each kind.
 #[derive(Drop)]
 enum Parts {
-    Alone(Head, ItemList<BtfMember, 4>),
-    InsteadOf(Head, Enum64Fallback, Vec<BtfMember>),
+    Alone {
+        name: u32,
+        info: u32,
+        size: u32,
+        members: ItemList<BtfMember, 4>,
+    },
+    InsteadOf {
+        name: u32,
+        info: u32,
+        size: u32,
+        fallback: Enum64Fallback,
+        members: Vec<BtfMember>,
+    },
 }
 
 /// A union (the kernel's documentation, "BTF_KIND_UNION"). In contracts it is the record of its words, and its
@@ -47,18 +58,48 @@ impl Parts {
         ensures members { parts_members result ≡ members.items }
         ensures fallback { kept_of result ≡ fallback_of_option fallback }
     {
+        let Head { name, info, third } = head;
         match fallback {
-            Some(fallback) => Parts::InsteadOf(head, fallback, members),
-            None => Parts::Alone(head, ItemList::from_vec(members)),
+            Some(fallback) => Parts::InsteadOf {
+                name,
+                info,
+                size: third,
+                fallback,
+                members,
+            },
+            None => Parts::Alone {
+                name,
+                info,
+                size: third,
+                members: ItemList::from_vec(members),
+            },
         }
     }
 
-    /// The first three words of the union.
-    fn head(&self) -> &Head
-        ensures { result.now ≡ head_of self.now }
+    /// The string offset of the name.
+    fn name(&self) -> u32
+        ensures { result ≡ (head_of self.now).name }
     {
         match self {
-            Parts::Alone(head, _) | Parts::InsteadOf(head, _, _) => head,
+            Parts::Alone { name, .. } | Parts::InsteadOf { name, .. } => *name,
+        }
+    }
+
+    /// The info word.
+    fn info(&self) -> u32
+        ensures { result ≡ (head_of self.now).info }
+    {
+        match self {
+            Parts::Alone { info, .. } | Parts::InsteadOf { info, .. } => *info,
+        }
+    }
+
+    /// The size in bytes.
+    fn size(&self) -> u32
+        ensures { result ≡ (head_of self.now).third }
+    {
+        match self {
+            Parts::Alone { size, .. } | Parts::InsteadOf { size, .. } => *size,
         }
     }
 
@@ -72,12 +113,30 @@ impl Parts {
         ensures fallback { IsOrNoMemory kept_of result (Ok (kept_of self.now)) }
     {
         match self {
-            Parts::Alone(head, members) => Ok(Parts::Alone(*head, members.clone()?)),
-            Parts::InsteadOf(head, fallback, members) => Ok(Parts::InsteadOf(
-                *head,
-                fallback.try_clone()?,
-                members.clone()?,
-            )),
+            Parts::Alone {
+                name,
+                info,
+                size,
+                members,
+            } => Ok(Parts::Alone {
+                name: *name,
+                info: *info,
+                size: *size,
+                members: members.clone()?,
+            }),
+            Parts::InsteadOf {
+                name,
+                info,
+                size,
+                fallback,
+                members,
+            } => Ok(Parts::InsteadOf {
+                name: *name,
+                info: *info,
+                size: *size,
+                fallback: fallback.try_clone()?,
+                members: members.clone()?,
+            }),
         }
     }
 
@@ -88,8 +147,19 @@ impl Parts {
         ensures fallback { kept_of result ≡ None }
     {
         match self {
-            Parts::Alone(head, members) => Parts::Alone(head, members),
-            Parts::InsteadOf(head, _, members) => Parts::Alone(head, ItemList::from_vec(members)),
+            Parts::InsteadOf {
+                name,
+                info,
+                size,
+                members,
+                ..
+            } => Parts::Alone {
+                name,
+                info,
+                size,
+                members: ItemList::from_vec(members),
+            },
+            alone => alone,
         }
     }
 }
@@ -152,7 +222,12 @@ impl Union {
     {
         let members = ItemList::read(alloc, rest, endianness, head.vlen())?;
         Ok(Self {
-            parts: Parts::Alone(head, members),
+            parts: Parts::Alone {
+                name: head.name,
+                info: head.info,
+                size: head.third,
+                members,
+            },
         })
     }
 
@@ -166,8 +241,8 @@ impl Union {
             ++ spell endianness self.now.words) }
         ensures whole { OnOk result (IsWhole self.now.words) }
     {
-        let head = self.parts.head();
-        push_array(out, endianness, &[head.name, head.info, head.third])?;
+        let parts = &self.parts;
+        push_array(out, endianness, &[parts.name(), parts.info(), parts.size()])?;
         push_items(out, endianness, self.members())
     }
 
@@ -183,7 +258,7 @@ impl Union {
         ensures value { result ≡ self.now.words.name }
         ensures kind { kind_of self.now.words.info ≡ Some model.Union }
     {
-        self.parts.head().name
+        self.parts.name()
     }
 
     /// The info word, whose kind is UNION and whose vlen is the number of members.
@@ -192,14 +267,14 @@ impl Union {
         ensures kind { kind_of result ≡ Some model.Union }
         ensures tail { length self.now.words.tail ≡ 3 * vlen self.now.words.info }
     {
-        self.parts.head().info
+        self.parts.info()
     }
 
     /// The size in bytes.
     pub fn size(&self) -> u32
         ensures { result ≡ self.now.words.third }
     {
-        self.parts.head().third
+        self.parts.size()
     }
 
     /// The members, in order.
@@ -208,8 +283,8 @@ impl Union {
         ensures count { vlen self.now.words.info ≡ length result.now }
     {
         match &self.parts {
-            Parts::Alone(_, members) => members.as_slice(),
-            Parts::InsteadOf(_, _, members) => members.as_slice(),
+            Parts::Alone { members, .. } => members.as_slice(),
+            Parts::InsteadOf { members, .. } => members.as_slice(),
         }
     }
 
@@ -232,8 +307,8 @@ impl Union {
         ensures { self.now.fallback ≡ fallback_of_option (option_copied result) }
     {
         match &self.parts {
-            Parts::Alone(_, _) => None,
-            Parts::InsteadOf(_, fallback, _) => Some(fallback),
+            Parts::Alone { .. } => None,
+            Parts::InsteadOf { fallback, .. } => Some(fallback),
         }
     }
 
@@ -242,7 +317,7 @@ impl Union {
         ensures len { result ≡ 12 + 4 * length self.now.words.tail }
         ensures kind { kind_of self.now.words.info ≡ Some model.Union }
     {
-        size_of_val(self.parts.head()) + 12 * self.members().len()
+        3 * size_of::<u32>() + 12 * self.members().len()
     }
 
     /// A copy of the record. `OutOfMemory` is the only error.

@@ -12,6 +12,7 @@ mod padding;
 mod params;
 mod spelling;
 mod task;
+mod tree;
 mod uses;
 mod walk;
 

@@ -128,6 +128,11 @@ fn is_keyword(word: &str) -> bool {
     }
 }
 
+/// The hexadecimal digit of a number below 16. `write!` would take ten times as long for each byte.
+fn digit(number: u8) -> char {
+    char::from_digit(u32::from(number), 16).unwrap_or('_')
+}
+
 /// Adds an identifier for a text that is none: a byte that may not be in an identifier is written as its two
 /// hexadecimal digits between `_`, and `_` is added before a digit, after a keyword, and for an empty text.
 pub fn add_escaped(word: &mut String, text: &str) -> Result<(), AllocError> {
@@ -139,7 +144,10 @@ pub fn add_escaped(word: &mut String, text: &str) -> Result<(), AllocError> {
         if is_word_byte(*byte) {
             word.push(char::from(*byte))?;
         } else {
-            write!(word, "_{byte:02x}_")?;
+            word.push_str("_")?;
+            word.push(digit(*byte >> 4))?;
+            word.push(digit(*byte & 0xf))?;
+            word.push_str("_")?;
         }
     }
     if is_keyword(text) {

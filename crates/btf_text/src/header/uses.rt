@@ -7,13 +7,11 @@
 use crate::error::TextError;
 use crate::header::identifier::{add_escaped, is_identifier};
 use crate::header::spelling::{Spelling, split_number};
+use crate::header::tree::{LONGEST_WAY, Link, Side, Tree};
 use crate::word::{text_at, text_or_empty};
 use btf_table::Btf;
-use std::alloc::{AllocError, Global};
+use std::alloc::Global;
 use std::cmp::Ordering;
-
-/// The maximum number of uses in a block.
-const BLOCK_LIMIT: usize = 128;
 
 /// What a name is the name of.
 #[derive(Clone, Copy, PartialEq, Eq)]
@@ -47,30 +45,14 @@ struct Use {
     is_defined: bool,
 }
 
-/// The place of a name among the uses.
-#[derive(Clone, Copy)]
-struct Place {
-    block: usize,
-    index: usize,
-    /// The use of the name; None if it is not used.
-    known: Option<Use>,
-}
-
 /// The used names of a name space of C (C11, 6.2.3).
 #[derive(Drop)]
 pub struct Uses {
     alloc: Global,
-    /// The uses in the order of hashes and spellings, in blocks, so that a further one moves only those of its block.
-    blocks: Vec<Vec<Use>>,
-    /// The number of uses.
-    count: usize,
+    /// The uses in the order of hashes and spellings.
+    tree: Tree<Use>,
     /// The spelling of a used name that is no identifier.
     escaped: String,
-}
-
-/// The index in the middle between two indices, the first of which is lower.
-fn middle_of(low: usize, high: usize) -> usize {
-    low.saturating_add(high.saturating_sub(low) / 2)
 }
 
 impl Naming {
@@ -88,8 +70,7 @@ impl Uses {
     pub fn new(alloc: Global) -> Uses {
         Uses {
             alloc,
-            blocks: Vec::new(alloc),
-            count: 0,
+            tree: Tree::new(alloc),
             escaped: String::new(alloc),
         }
     }
@@ -104,10 +85,9 @@ impl Uses {
         naming: Naming,
     ) -> Result<u32, TextError> {
         let name = Spelling::new(text, Some(name_offset));
-        let place = self.find(table, &name)?;
-        match place.known {
-            Some(known) => self.count_again(table, place, known, &name, naming),
-            None => self.count_first(table, place, name_offset, &name, naming),
+        match self.find(table, &name)? {
+            Some((link, known)) => self.count_again(table, link, known, &name, naming),
+            None => self.count_first(table, name_offset, &name, naming),
         }
     }
 
@@ -116,7 +96,6 @@ impl Uses {
     fn count_first(
         &mut self,
         table: &Btf,
-        place: Place,
         name_offset: u32,
         name: &Spelling<'_>,
         naming: Naming,
@@ -128,15 +107,19 @@ impl Uses {
             tag: naming.tag,
             is_defined: !naming.is_forward,
         };
-        if self.is_numbered(table, name)? {
-            new = Use {
-                last: self.next_number(table, name, 1)?,
-                tag: Tag::Other,
-                is_defined: true,
-                ..new
-            };
+        if let Some((text, number)) = split_number(name.text) {
+            if self.was_written(table, text, number)? {
+                new = Use {
+                    last: self.next_number(table, name, 1)?,
+                    tag: Tag::Other,
+                    is_defined: true,
+                    ..new
+                };
+            }
+            // The way to the new use, after that to other names.
+            self.find(table, name)?;
         }
-        self.insert(place, new)?;
+        self.tree.insert(new)?;
         Ok(new.last)
     }
 
@@ -144,7 +127,7 @@ impl Uses {
     fn count_again(
         &mut self,
         table: &Btf,
-        place: Place,
+        link: Link,
         known: Use,
         name: &Spelling<'_>,
         naming: Naming,
@@ -161,7 +144,7 @@ impl Uses {
             last,
             ..known
         };
-        self.replace(place, new);
+        self.tree.replace(link, new);
         Ok(if is_same { 1 } else { last })
     }
 
@@ -174,80 +157,41 @@ impl Uses {
     ) -> Result<u32, TextError> {
         let text = name.text;
         let mut number = last;
-        for _ in 0..self.count.saturating_add(1) {
+        for _ in 0..self.tree.len().saturating_add(1) {
             number = number.saturating_add(1);
             let word = format!(in self.alloc; "{text}___{number}")?;
-            let place = self.find(table, &Spelling::new(word.as_str(), None))?;
-            if place.known.is_none() {
+            let spelling = Spelling::new(word.as_str(), None);
+            if self.find(table, &spelling)?.is_none() {
                 break;
             }
         }
         Ok(number)
     }
 
-    /// Whether a name that is not used was written for another name with its number. A number that was passed over is
-    /// in a name that is used.
-    fn is_numbered(&mut self, table: &Btf, name: &Spelling<'_>) -> Result<bool, TextError> {
-        let Some((text, number)) = split_number(name.text) else {
-            return Ok(false);
-        };
-        let place = self.find(table, &Spelling::new(text, None))?;
-        Ok(match place.known {
-            Some(known) => number <= known.last,
+    /// Whether a name was written with a number, although this spelling itself is not used. A number that was passed
+    /// over is in a name that is used.
+    fn was_written(&mut self, table: &Btf, text: &str, number: u32) -> Result<bool, TextError> {
+        Ok(match self.find(table, &Spelling::new(text, None))? {
+            Some((_, known)) => number <= known.last,
             None => false,
         })
     }
 
-    /// The place of a name.
-    fn find(&mut self, table: &Btf, name: &Spelling<'_>) -> Result<Place, TextError> {
-        let block = self.find_block(table, name)?;
-        let (mut low, mut high) = (0, self.block_len(block));
-        for _ in 0..usize::BITS {
-            if low >= high {
-                break;
-            }
-            let middle = middle_of(low, high);
-            let Some(used) = self.use_at(block, middle) else {
+    /// The use of a name, and its link; None if it is not used. This is a way down the tree to where the use belongs.
+    fn find(&mut self, table: &Btf, name: &Spelling<'_>) -> Result<Option<(Link, Use)>, TextError> {
+        self.tree.begin();
+        for _ in 0..LONGEST_WAY {
+            let Some((link, used)) = self.tree.here() else {
                 break;
             };
-            match self.order(table, &used, name)? {
-                Ordering::Less => low = middle.saturating_add(1),
-                Ordering::Greater => high = middle,
-                Ordering::Equal => {
-                    return Ok(Place {
-                        block,
-                        index: middle,
-                        known: Some(used),
-                    });
-                }
-            }
-        }
-        Ok(Place {
-            block,
-            index: low,
-            known: None,
-        })
-    }
-
-    /// The last block whose first name is not after this one; the first block if there is none.
-    fn find_block(&mut self, table: &Btf, name: &Spelling<'_>) -> Result<usize, TextError> {
-        let (mut low, mut high) = (0, self.blocks.len());
-        for _ in 0..usize::BITS {
-            if low >= high {
-                break;
-            }
-            let middle = middle_of(low, high);
-            let order = match self.use_at(middle, 0) {
-                Some(used) => self.order(table, &used, name)?,
-                None => Ordering::Less,
+            let side = match self.order(table, &used, name)? {
+                Ordering::Less => Side::After,
+                Ordering::Greater => Side::Before,
+                Ordering::Equal => return Ok(Some((link, used))),
             };
-            if order == Ordering::Greater {
-                high = middle;
-            } else {
-                low = middle.saturating_add(1);
-            }
+            self.tree.go(side)?;
         }
-        Ok(low.saturating_sub(1))
+        Ok(None)
     }
 
     /// The order of a used name and a name: by their hashes, and then by their spellings.
@@ -284,59 +228,5 @@ impl Uses {
         self.escaped.clear();
         add_escaped(&mut self.escaped, text)?;
         Ok(self.escaped.as_str().cmp(name.text))
-    }
-
-    /// The number of uses in a block.
-    fn block_len(&self, block: usize) -> usize {
-        match self.blocks.get(block) {
-            Some(uses) => uses.len(),
-            None => 0,
-        }
-    }
-
-    /// The use at an index of a block.
-    fn use_at(&self, block: usize, index: usize) -> Option<Use> {
-        self.blocks.get(block)?.get(index).copied()
-    }
-
-    /// Replaces a use.
-    fn replace(&mut self, place: Place, new: Use) {
-        let Some(uses) = self.blocks.get_mut(place.block) else {
-            return;
-        };
-        if let Some(used) = uses.get_mut(place.index) {
-            *used = new;
-        }
-    }
-
-    /// Inserts a use at its place.
-    fn insert(&mut self, place: Place, new: Use) -> Result<(), AllocError> {
-        self.count = self.count.saturating_add(1);
-        match self.blocks.get_mut(place.block) {
-            Some(uses) => {
-                let index = place.index.min(uses.len());
-                uses.insert(index, new)?;
-                self.split(place.block)
-            }
-            None => {
-                let uses = vec![in self.alloc; new]?;
-                self.blocks.push(uses)?;
-                Ok(())
-            }
-        }
-    }
-
-    /// Splits a block that has too many uses.
-    fn split(&mut self, block: usize) -> Result<(), AllocError> {
-        let Some(uses) = self.blocks.get_mut(block) else {
-            return Ok(());
-        };
-        if uses.len() <= BLOCK_LIMIT {
-            return Ok(());
-        }
-        let tail = uses.split_off(BLOCK_LIMIT / 2)?;
-        let next = block.saturating_add(1).min(self.blocks.len());
-        self.blocks.insert(next, tail)?;
-        Ok(())
     }
 }
