@@ -11,7 +11,7 @@ use Rattle.btf_model.specs.Table.{Table}
 use Rattle.btf_model.specs.Walk.{walk_limit}
 use Rattle.btf_model.specs.Fields.{Pair, IsAt}
 use Rattle.btf_model.specs.Compat as model
-use Rattle.btf_model.specs.Compat.{Decided, On, Pending, Finds, PositionFound, parameter_types, pairs, prototypes, ResolvesPair, Plain, Walked, ComparedInOrder, AreKnown, pair_eq}
+use Rattle.btf_model.specs.Compat.{Decided, On, Pending, Finds, PositionFound, pairs, ResolvesPair, Plain, Walked, ComparedInOrder, pair_eq}
 use Rattle.btf_model.proofs.Known.{Among, among_from_contains, contains_from_among}
 use Rattle.btf_model.proofs.Firsts.{eq_itself, eq_same}
 use Rattle.btf_plain.specs.Error.{Meets, refusal_of}

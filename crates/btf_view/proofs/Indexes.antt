@@ -6,7 +6,7 @@ use Rattle.btf_model.specs.Record.{unknown}
 use Rattle.btf_model.specs.Refusal as refusals
 use Rattle.btf_model.specs.Table.{Table, no_fallbacks}
 use Rattle.btf_model.specs.Blob as blob
-use Rattle.btf_model.specs.Blob.{header_len, header_of, slice, strings_end, types_end, IsTable, IsRefusal}
+use Rattle.btf_model.specs.Blob.{header_len, header_of, slice, strings_end, types_end}
 use Rattle.btf_plain.specs.declared.error.BtfError.{BtfError}
 use Rattle.btf_plain.specs.declared.error.BtfError.TheVariants.{InvalidHeader, InvalidTypeInfo}
 use Rattle.btf_view.proofs.Places.{as_many_places}

@@ -1,5 +1,5 @@
 -- A file that is rewritten for a kernel.
-use Rattle.std.specs.Prelude.{◌≡◌, ℕ, List, None, Ok, Option, MatchBool}
+use Rattle.std.specs.Prelude.{◌≡◌, ℕ, List, Ok, Option, MatchBool}
 use Rattle.std.specs.Option.{option_map}
 use Rattle.btf_model.specs.Blob.{IsTable, canon}
 use Rattle.btf_model.specs.Table.{Table, strip}

@@ -1,6 +1,5 @@
 use Rattle.std.proofs.Common.{ap, refl}
 use Rattle.btf_model.specs.Record as model
-use Rattle.btf_model.specs.Record.{Kind}
 use Rattle.btf_plain.specs.Kind.{kind}
 use Rattle.btf_view.specs.Items.{variants, variant_forms, wide_variant_forms}
 use Rattle.btf_view.proofs.KindNames.{no_variants}

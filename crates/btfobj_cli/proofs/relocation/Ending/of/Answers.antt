@@ -1,4 +1,4 @@
-use Rattle.std.proofs.Common.{◌≡◌, ◌∙◌, ℕ, Bool, true, false, List, map, ap, sym}
+use Rattle.std.proofs.Common.{◌≡◌, ◌∙◌, ℕ, Bool, true, false, List, map, ap}
 use Rattle.std.specs.Prelude.{if◌then◌else◌}
 use Rattle.clap.proofs.WalkLemmas.{list_any-map}
 use Rattle.btf_loader_model.specs.Loader.{Outcomes, any_error, has_error}
