@@ -317,7 +317,8 @@ impl Union {
         ensures len { result ≡ 12 + 4 * length self.now.words.tail }
         ensures kind { kind_of self.now.words.info ≡ Some model.Union }
     {
-        3 * size_of::<u32>() + 12 * self.members().len()
+        let info = self.info();
+        3 * size_of_val(&info) + 12 * self.members().len()
     }
 
     /// A copy of the record. `OutOfMemory` is the only error.
