@@ -170,10 +170,7 @@ impl Names {
     ) -> Result<u32, TextError> {
         let read = text_at(table, name_offset)?;
         let text = text_or_empty(&read);
-        let is_plain = is_identifier(text);
-        if !is_plain {
-            self.escape(text)?;
-        }
+        let is_plain = self.examine(text)?;
         let written = written_of(text, self.escaped.as_str(), is_plain);
         if is_tag {
             self.tags.count(table, name_offset, written, naming)
@@ -189,22 +186,30 @@ impl Names {
         name_offset: u32,
         out: &mut W,
     ) -> Result<(), TextError> {
-        let naming = Naming::defined(Tag::Other);
-        let number = self.count(table, name_offset, naming, false)?;
         let read = text_at(table, name_offset)?;
-        self.write_plain(text_or_empty(&read), out)?;
+        let text = text_or_empty(&read);
+        let is_plain = self.examine(text)?;
+        let written = written_of(text, self.escaped.as_str(), is_plain);
+        let naming = Naming::defined(Tag::Other);
+        let number = self.identifiers.count(table, name_offset, written, naming)?;
+        out.write_str(written)?;
         write_number(number, out)
     }
 
     /// Writes a text as an identifier, without a number.
     pub fn write_plain<W: Write>(&mut self, text: &str, out: &mut W) -> Result<(), TextError> {
-        if is_identifier(text) {
-            out.write_str(text)?;
-        } else {
-            self.escape(text)?;
-            out.write_str(self.escaped.as_str())?;
-        }
+        let is_plain = self.examine(text)?;
+        out.write_str(written_of(text, self.escaped.as_str(), is_plain))?;
         Ok(())
+    }
+
+    /// Whether a text is an identifier. The spelling of another text is then set.
+    fn examine(&mut self, text: &str) -> Result<bool, AllocError> {
+        if is_identifier(text) {
+            return Ok(true);
+        }
+        self.escape(text)?;
+        Ok(false)
     }
 
     /// Sets the spelling of a name that is no identifier.
