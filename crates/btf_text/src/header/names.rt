@@ -9,6 +9,9 @@ use btf_table::{Btf, type_count};
 use std::alloc::{AllocError, Global};
 use std::fmt::Write;
 
+/// The number of a table's types for one tree of names. In a kernel's table, half of the types have no name in C.
+const TYPES_OF_TREE: usize = 4;
+
 /// How the name of a type is written.
 #[derive(Clone, Copy, PartialEq, Eq)]
 enum Form {
@@ -78,10 +81,11 @@ impl Names {
             number: 0,
             form: None,
         };
+        let count = type_count(table) as usize;
         Ok(Names {
-            tags: Uses::new(alloc),
-            identifiers: Uses::new(alloc),
-            types: vec![in alloc; new; type_count(table) as usize]?,
+            tags: Uses::new(alloc, count / TYPES_OF_TREE)?,
+            identifiers: Uses::new(alloc, count / TYPES_OF_TREE)?,
+            types: vec![in alloc; new; count]?,
             escaped: String::new(alloc),
         })
     }

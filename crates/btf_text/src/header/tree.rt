@@ -1,8 +1,8 @@
-//! A balanced tree of items in an order: an AA tree (A. Andersson, "Balanced search trees made simple", 1993).
+//! Items in an order, which a hash finds: one balanced tree for each value of the hash's last bits. A tree is an AA tree
+//! (A. Andersson, "Balanced search trees made simple", 1993).
 //!
-//! The caller compares, because a comparison may fail: it goes down from the root by `begin`, `here` and `go`, and
-//! `insert` adds an item where this way ends. So a tree of n items takes n log n comparisons and moves, whatever they
-//! are.
+//! The caller compares, because a comparison may fail: it goes down from a root by `begin`, `here` and `go`, and `insert`
+//! adds an item where this way ends. So n items take n log n comparisons and moves, even if all hashes are equal.
 
 use std::alloc::{AllocError, Global};
 
@@ -30,6 +30,9 @@ struct Node<T> {
     level: u32,
 }
 
+/// The maximum number of trees.
+const MOST_TREES: usize = 1 << 20;
+
 /// A step of a way down.
 #[derive(Clone, Copy)]
 struct Step {
@@ -37,24 +40,29 @@ struct Step {
     side: Side,
 }
 
-/// A balanced tree, and the last way down.
+/// Balanced trees, and the last way down one of them.
 #[derive(Drop)]
-pub struct Tree<T> {
+pub struct Trees<T> {
     nodes: Vec<Node<T>>,
-    root: Link,
+    /// The roots of the trees, whose number is a power of two.
+    roots: Vec<Link>,
     way: Vec<Step>,
+    /// The index of the tree.
+    tree: usize,
     end: Link,
 }
 
-impl<T: Copy> Tree<T> {
-    /// No items.
-    pub fn new(alloc: Global) -> Tree<T> {
-        Tree {
+impl<T: Copy> Trees<T> {
+    /// No items, in trees for this number of items.
+    pub fn new(alloc: Global, count: usize) -> Result<Trees<T>, AllocError> {
+        let trees = count.clamp(1, MOST_TREES).next_power_of_two();
+        Ok(Trees {
             nodes: Vec::new(alloc),
-            root: 0,
+            roots: vec![in alloc; 0; trees]?,
             way: Vec::new(alloc),
+            tree: 0,
             end: 0,
-        }
+        })
     }
 
     /// The number of items.
@@ -62,10 +70,11 @@ impl<T: Copy> Tree<T> {
         self.nodes.len()
     }
 
-    /// Begins a way down, at the root.
-    pub fn begin(&mut self) {
+    /// Begins a way down, at the root of the tree of a hash.
+    pub fn begin(&mut self, hash: u32) {
         self.way.clear();
-        self.end = self.root;
+        self.tree = hash as usize & self.roots.len().saturating_sub(1);
+        self.end = self.roots.get(self.tree).copied().unwrap_or(0);
     }
 
     /// The item to which the way leads, and its link; None if the way is past a leaf.
@@ -106,8 +115,14 @@ impl<T: Copy> Tree<T> {
             self.set_below(step.from, step.side, top);
             top = self.skew(step.from);
             top = self.split(top);
+            if top == step.from {
+                // Nothing changes above a node that keeps its place.
+                return Ok(());
+            }
         }
-        self.root = top;
+        if let Some(root) = self.roots.get_mut(self.tree) {
+            *root = top;
+        }
         Ok(())
     }
 

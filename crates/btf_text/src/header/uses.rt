@@ -7,10 +7,10 @@
 use crate::error::TextError;
 use crate::header::identifier::{add_escaped, is_identifier};
 use crate::header::spelling::{Spelling, split_number};
-use crate::header::tree::{LONGEST_WAY, Link, Side, Tree};
+use crate::header::tree::{LONGEST_WAY, Link, Side, Trees};
 use crate::word::{text_at, text_or_empty};
 use btf_table::Btf;
-use std::alloc::Global;
+use std::alloc::{AllocError, Global};
 use std::cmp::Ordering;
 
 /// What a name is the name of.
@@ -50,7 +50,7 @@ struct Use {
 pub struct Uses {
     alloc: Global,
     /// The uses in the order of hashes and spellings.
-    tree: Tree<Use>,
+    trees: Trees<Use>,
     /// The spelling of a used name that is no identifier.
     escaped: String,
 }
@@ -66,13 +66,13 @@ impl Naming {
 }
 
 impl Uses {
-    /// No names.
-    pub fn new(alloc: Global) -> Uses {
-        Uses {
+    /// No names, with room for the search of this number.
+    pub fn new(alloc: Global, count: usize) -> Result<Uses, AllocError> {
+        Ok(Uses {
             alloc,
-            tree: Tree::new(alloc),
+            trees: Trees::new(alloc, count)?,
             escaped: String::new(alloc),
-        }
+        })
     }
 
     /// Counts a use of the name at a string offset, which is written as this text, and returns its number. A type that
@@ -119,7 +119,7 @@ impl Uses {
             // The way to the new use, after that to other names.
             self.find(table, name)?;
         }
-        self.tree.insert(new)?;
+        self.trees.insert(new)?;
         Ok(new.last)
     }
 
@@ -144,7 +144,7 @@ impl Uses {
             last,
             ..known
         };
-        self.tree.replace(link, new);
+        self.trees.replace(link, new);
         Ok(if is_same { 1 } else { last })
     }
 
@@ -157,7 +157,7 @@ impl Uses {
     ) -> Result<u32, TextError> {
         let text = name.text;
         let mut number = last;
-        for _ in 0..self.tree.len().saturating_add(1) {
+        for _ in 0..self.trees.len().saturating_add(1) {
             number = number.saturating_add(1);
             let word = format!(in self.alloc; "{text}___{number}")?;
             let spelling = Spelling::new(word.as_str(), None);
@@ -179,9 +179,9 @@ impl Uses {
 
     /// The use of a name, and its link; None if it is not used. This is a way down the tree to where the use belongs.
     fn find(&mut self, table: &Btf, name: &Spelling<'_>) -> Result<Option<(Link, Use)>, TextError> {
-        self.tree.begin();
+        self.trees.begin(name.hash);
         for _ in 0..LONGEST_WAY {
-            let Some((link, used)) = self.tree.here() else {
+            let Some((link, used)) = self.trees.here() else {
                 break;
             };
             let side = match self.order(table, &used, name)? {
@@ -189,7 +189,7 @@ impl Uses {
                 Ordering::Greater => Side::Before,
                 Ordering::Equal => return Ok(Some((link, used))),
             };
-            self.tree.go(side)?;
+            self.trees.go(side)?;
         }
         Ok(None)
     }
