@@ -115,10 +115,6 @@ impl<T: Copy> Trees<T> {
             self.set_below(step.from, step.side, top);
             top = self.skew(step.from);
             top = self.split(top);
-            if top == step.from {
-                // Nothing changes above a node that keeps its place.
-                return Ok(());
-            }
         }
         if let Some(root) = self.roots.get_mut(self.tree) {
             *root = top;
