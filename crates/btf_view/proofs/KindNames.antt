@@ -15,7 +15,7 @@ use Rattle.btf_plain.specs.declared.head.Head.{Head}
 use Rattle.btf_view.specs.Items.{entries, members, params, variants}
 use Rattle.btf_view.specs.Record.{HasHead}
 
-abbrev number_of : Kind → ℕ
+abbrev pub number_of : Kind → ℕ
 number_of model.Unknown = 0
 number_of model.Int = 1
 number_of model.Ptr = 2
@@ -53,7 +53,7 @@ unfolding places
 numbers = refl
 
 -- the place of a kind is its number
-placed_kind : (n : ℕ) (k : Kind) → slice_get model.kinds n ≡ Some k → 0 + n ≡ number_of k
+pub placed_kind : (n : ℕ) (k : Kind) → slice_get model.kinds n ≡ Some k → 0 + n ≡ number_of k
 placed_kind n k is = place_is 0 model.kinds n (number_of k) (ap (λ (xs : List ℕ). slice_get xs n) (sym numbers) ∙ slice_get-map number_of model.kinds n ∙ ap (option_map number_of) is)
 
 -- a kind has one number

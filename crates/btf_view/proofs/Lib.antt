@@ -12,5 +12,6 @@ pub mod Walking
 pub mod Filled
 pub mod Fills
 pub mod KindNames
+pub mod Sizings
 pub mod Listing
 pub mod Found

@@ -1,11 +1,10 @@
 //! The size of a type.
 
-ghost use Rattle.std.specs.Prelude.{◌≡◌, ◌≢◌, ◌*◌, ◌+◌, ◌<◌, ◌≤◌, ◌^◌, List, Some, MatchResult};
+ghost use Rattle.std.specs.Prelude.{◌≡◌, ◌*◌, ◌+◌, ◌<◌, ◌≤◌, ◌^◌, List, Some, MatchResult};
 ghost use Rattle.btf_model.specs.Record.{Array, Record, kind_of};
 ghost use Rattle.btf_model.specs.Walk as model;
 ghost use Rattle.btf_model.specs.Walk.{HasSize};
 ghost use Rattle.btf_plain.specs.Error.{Meets};
-ghost use Rattle.btf_plain.specs.Kind as kinds_of;
 ghost use Rattle.btf_view.specs.Extent.{model_extent};
 ghost use Rattle.btf_view.specs.Many.{FillsSizes, SizeOrMost};
 ghost use Rattle.btf_view.specs.Places.{ForRecords, IsRecordAt};
@@ -25,6 +24,55 @@ pub(crate) enum Extent {
     Nothing,
 }
 
+/// How a type gives its size. There are only three ways, because the compiler makes a jump table of a match with more,
+/// and a processor does not predict which way such a jump goes.
+#[derive(Clone, Copy)]
+enum Sizing {
+    /// The type has a size of its own.
+    Own,
+    /// The type has the size of the one type that it refers to.
+    Referred,
+    /// An ARRAY has the size of its elements, and the other types have none.
+    Other,
+}
+
+/// How a type gives its size, by the number of its kind.
+static SIZINGS: [Sizing; 32] = [
+    Sizing::Other, // the type of id 0
+    Sizing::Own, // INT
+    Sizing::Own, // PTR
+    Sizing::Other, // ARRAY
+    Sizing::Own, // STRUCT
+    Sizing::Own, // UNION
+    Sizing::Own, // ENUM
+    Sizing::Other, // FWD
+    Sizing::Referred, // TYPEDEF
+    Sizing::Referred, // VOLATILE
+    Sizing::Referred, // CONST
+    Sizing::Referred, // RESTRICT
+    Sizing::Other, // FUNC
+    Sizing::Referred, // FUNC_PROTO
+    Sizing::Referred, // VAR
+    Sizing::Own, // DATASEC
+    Sizing::Own, // FLOAT
+    Sizing::Referred, // DECL_TAG
+    Sizing::Referred, // TYPE_TAG
+    Sizing::Own, // ENUM64
+    // No kind has the other numbers.
+    Sizing::Other,
+    Sizing::Other,
+    Sizing::Other,
+    Sizing::Other,
+    Sizing::Other,
+    Sizing::Other,
+    Sizing::Other,
+    Sizing::Other,
+    Sizing::Other,
+    Sizing::Other,
+    Sizing::Other,
+    Sizing::Other,
+];
+
 /// What the ARRAY at a place gives for its size.
 #[inline(always)]
 fn array_extent(types: &[u8], place: u32, endianness: Endianness) -> Extent
@@ -39,26 +87,6 @@ fn array_extent(types: &[u8], place: u32, endianness: Endianness) -> Extent
     Extent::Times(word_at(types, at + 8, endianness), element)
 }
 
-/// What a type of this kind, which is no ARRAY, gives for its size, by its third word.
-#[inline(always)]
-fn plain_extent(kind: BtfKind, third: u32) -> Extent
-    ensures { (r : Record) → third ≡ r.third → kind ≢ BtfKind.Array
-        → model_extent result ≡ model.extent (Some (kinds_of.kind kind)) r }
-{
-    match kind {
-        BtfKind::Int
-        | BtfKind::Struct
-        | BtfKind::Union
-        | BtfKind::Enum
-        | BtfKind::DataSec
-        | BtfKind::Float
-        | BtfKind::Enum64 => Extent::Bytes(third),
-        BtfKind::Ptr => Extent::Bytes(8),
-        BtfKind::Unknown | BtfKind::Fwd | BtfKind::Func => Extent::Nothing,
-        _ => Extent::Times(1, third),
-    }
-}
-
 /// What the type at a place gives for its size. A word that reading drops gives nothing.
 #[inline(always)]
 fn extent_at(types: &[u8], place: u32, endianness: Endianness) -> Extent
@@ -66,12 +94,14 @@ fn extent_at(types: &[u8], place: u32, endianness: Endianness) -> Extent
         → model_extent result ≡ model.extent (kind_of r.info) r }
 {
     let head = raw_head_at(types, place, endianness);
-    let Ok(kind) = BtfKind::try_from(head.kind()) else {
-        return Extent::Nothing;
-    };
-    match kind {
-        BtfKind::Array => array_extent(types, place, endianness),
-        other => plain_extent(other, head.third),
+    let kind = head.kind();
+    let sizing = SIZINGS[kind as usize];
+    match sizing {
+        Sizing::Own if kind == BtfKind::Ptr as u32 => Extent::Bytes(8),
+        Sizing::Own => Extent::Bytes(head.third),
+        Sizing::Referred => Extent::Times(1, head.third),
+        Sizing::Other if kind == BtfKind::Array as u32 => array_extent(types, place, endianness),
+        Sizing::Other => Extent::Nothing,
     }
 }
 
