@@ -9,7 +9,7 @@ ghost use Rattle.btf_view.specs.Places.{ArePlaces, ForRecords, IsRecordAt};
 
 use crate::forms::{Member, TypeWords, type_words};
 use crate::items::Listed;
-use crate::record::{head_at, most_head_at, tail_at, word_at};
+use crate::record::{head_at, most_head_at, tail_at, word_at, word_pair_at};
 use btf_plain::{BtfKind, BtfMember, Endianness};
 
 /// Writes the first words of the type at a place. Most types take the short way.
@@ -88,12 +88,11 @@ fn item_at<T: Listed>(bytes: &[u8], at: usize, endianness: Endianness) -> T
     requires { at + 4 * T.WIDTH ≤ length bytes.now }
     ensures { T.item_words result ≡ words_at endianness T.WIDTH (drop at bytes.now) }
 {
-    let first = word_at(bytes, at, endianness);
-    let second = word_at(bytes, at + 4, endianness);
+    let words = word_pair_at(bytes, at, endianness);
     if T::WIDTH == 2 {
-        return T::from_words([first, second, 0]);
+        return T::from_words([words.0, words.1, 0]);
     }
-    T::from_words([first, second, word_at(bytes, at + 8, endianness)])
+    T::from_words([words.0, words.1, word_at(bytes, at + 8, endianness)])
 }
 
 /// Writes the items of a record with this info word, whose words after the head the bytes begin with, as many as fit,

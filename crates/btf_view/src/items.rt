@@ -1,7 +1,7 @@
 //! The items of a record, in the form that C reads.
 
-ghost use Rattle.std.specs.Prelude.{◌≡◌, ◌*◌, ◌+◌, ◌^◌, refl};
-ghost use Rattle.btf_model.specs.Record.{member_bit_field_size, member_bit_offset};
+ghost use Rattle.std.specs.Prelude.{◌≡◌, ◌==◌, ◌*◌, ◌+◌, ◌^◌, if◌then◌else◌, refl};
+ghost use Rattle.btf_model.specs.Record.{kind_flag, member_bit_field_size, member_bit_offset};
 ghost use Rattle.btf_view.specs.Items.{entry_form, entry_forms, member_form, member_forms, param_form, param_forms, variant_form, variant_forms, wide_variant_forms};
 
 use crate::forms::{Entry, Member, Param, Variant};
@@ -32,16 +32,21 @@ pub trait Listed: Item {
         → forms_in info (Self.item_words item ++ rest) ≡ form info item ∷ forms_in info rest };
 }
 
+/// The bits of a member's offset word that are the size of a bit-field, in a record with this info word. They depend on
+/// the record only, so a loop over its members computes them once.
+#[inline(always)]
+fn size_bits(info: u32) -> u32
+    ensures { result ≡ (if kind_flag info == 1 then 0xff00_0000 else 0) }
+{
+    if info >> 31 == 1 { 0xff00_0000 } else { 0 }
+}
+
 /// The bit at which a member with this offset word begins, in a record with this info word.
 #[inline(always)]
 fn bit_offset(info: u32, offset: u32) -> u32
     ensures { result ≡ member_bit_offset info offset }
 {
-    if info >> 31 == 1 {
-        offset & 0xff_ffff
-    } else {
-        offset
-    }
+    offset & !size_bits(info)
 }
 
 /// The number of bits of a member with this offset word, in a record with this info word; 0 if it is no bit-field.
@@ -49,7 +54,7 @@ fn bit_offset(info: u32, offset: u32) -> u32
 fn bit_field_size(info: u32, offset: u32) -> u32
     ensures { result ≡ member_bit_field_size info offset }
 {
-    if info >> 31 == 1 { offset >> 24 } else { 0 }
+    (offset & size_bits(info)) >> 24
 }
 
 impl Listed for BtfMember {

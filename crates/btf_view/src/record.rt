@@ -42,9 +42,9 @@ fn little_pair(bytes: &[u8], at: usize) -> (u32, u32)
     }
 }
 
-/// Two words at an offset. A loop over little-endian types loads and stores both in one piece.
+/// Two words at an offset. Those of a little-endian table are one load.
 #[inline(always)]
-fn word_pair_at(bytes: &[u8], at: usize, endianness: Endianness) -> (u32, u32)
+pub(crate) fn word_pair_at(bytes: &[u8], at: usize, endianness: Endianness) -> (u32, u32)
     requires { at + 8 ≤ length bytes.now }
     ensures first { result.0 ≡ blob.word_at endianness at bytes.now }
     ensures second { result.1 ≡ blob.word_at endianness (at + 4) bytes.now }
