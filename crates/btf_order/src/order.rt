@@ -25,6 +25,9 @@ pub fn header_order(table: &Btf) -> Result<Vec<u32>, BtfError>
 {
     let mut progress = Progress::new(table, find_referenced(table)?)?;
     for id in 0..type_count(table) {
+        if progress.pass(table, id) {
+            continue;
+        }
         run(table, id, &mut progress)?;
     }
     Ok(progress.ids)

@@ -10,7 +10,7 @@ ghost use Rattle.btf_order.specs.Frame.{IsWalkFrame, IsCovered, LinkIs, is_done}
 ghost use Rattle.btf_order.specs.Progress.{KnowsOrder, NoneWaits, Grows, Closes, IsListed, HasLeft, LeavesWalks, VisitIs, IsMarked, IsBehind, is_complete_in, is_open_mark, is_open_walk, left_over};
 
 use crate::frame::{Frame, Link};
-use crate::shape::{Node, Passing, is_listed, passing_of, shape_of};
+use crate::shape::{Node, Passing, is_alone, is_listed, passing_of, shape_of};
 use btf_plain::BtfError;
 use btf_records::BtfType;
 use btf_table::{Btf, allocator_of, type_count};
@@ -89,6 +89,38 @@ impl Progress {
         ensures { result ≡ is_complete_in self.now.marks.items id }
     {
         matches!(self.marks.get(id as usize), Some(Mark::Complete))
+    }
+
+    /// Passes a type from which a walk finds nothing: the type becomes complete, and the result is true. At any other
+    /// type nothing changes, and the result is false.
+    #[inline(always)]
+    pub fn pass(&mut self, table: &Btf, id: u32) -> bool
+        requires knows { KnowsOrder table.now.records self.old }
+        requires inside { id < length table.now.records }
+        ensures knows { KnowsOrder table.now.records self.new }
+        ensures grows { Grows self.old self.new }
+        ensures none_open { NoneWaits self.old → NoneWaits self.new }
+        ensures complete { result ≡ true → is_complete_in self.new.marks.items id ≡ true }
+        ensures same { result ≡ false → self.new ≡ self.old }
+    {
+        let Ok(btf_type) = table.type_by_id(id) else {
+            return false;
+        };
+        if !is_alone(btf_type) {
+            return false;
+        }
+        self.complete(id);
+        true
+    }
+
+    /// A walk to a type finds nothing more to declare.
+    #[inline(always)]
+    fn complete(&mut self, id: u32)
+        requires { id < length self.old.marks.items }
+        ensures left { HasLeft self.old self.new id true }
+        ensures walks { self.new.walks ≡ self.old.walks }
+    {
+        self.marks[id as usize] = Mark::Complete;
     }
 
     /// The walk comes to a type.
@@ -236,7 +268,7 @@ impl Progress {
             };
         }
         if link.is_settled {
-            self.marks[id as usize] = Mark::Complete;
+            self.complete(id);
         }
     }
 }

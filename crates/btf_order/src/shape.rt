@@ -159,6 +159,27 @@ pub fn is_listed(btf_type: &BtfType, is_referenced: bool) -> bool
     }
 }
 
+/// Whether a walk from the type finds nothing: the type refers to none that the walk goes to, and is not declared.
+#[inline(always)]
+pub fn is_alone(btf_type: &BtfType) -> bool
+    ensures no_types { result ≡ true → length (value_types (record_of btf_type.now)) ≡ 0 }
+    ensures undeclared { result ≡ true → is_declared_by
+        (kind_of (record_of btf_type.now).info) (record_of btf_type.now) ≡ false }
+{
+    // Only a use of the record proves that the info word has the kind.
+    let _ = btf_type.name_offset();
+    match btf_type {
+        BtfType::Unknown
+        | BtfType::Int(_)
+        | BtfType::Float(_)
+        | BtfType::Func(_)
+        | BtfType::Var(_)
+        | BtfType::DataSec(_)
+        | BtfType::DeclTag(_) => true,
+        _ => false,
+    }
+}
+
 /// How the walk passes a type that it comes to through a pointer.
 #[derive(Clone, Copy, Drop)]
 pub enum Passing {
