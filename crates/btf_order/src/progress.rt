@@ -91,8 +91,7 @@ impl Progress {
         matches!(self.marks.get(id as usize), Some(Mark::Complete))
     }
 
-    /// Passes a type from which a walk finds nothing: the type becomes complete, and the result is true. At any other
-    /// type nothing changes, and the result is false.
+    /// Marks a type as complete if a walk from it finds nothing, and returns whether it did. Nothing else changes.
     #[inline(always)]
     pub fn pass(&mut self, table: &Btf, id: u32) -> bool
         requires knows { KnowsOrder table.now.records self.old }
@@ -113,7 +112,7 @@ impl Progress {
         true
     }
 
-    /// A walk to a type finds nothing more to declare.
+    /// Marks a type as complete: a later walk to it finds nothing to declare.
     #[inline(always)]
     fn complete(&mut self, id: u32)
         requires { id < length self.old.marks.items }

@@ -159,7 +159,7 @@ pub fn is_listed(btf_type: &BtfType, is_referenced: bool) -> bool
     }
 }
 
-/// Whether a walk from the type finds nothing: the type refers to none that the walk goes to, and is not declared.
+/// Whether a walk from the type finds nothing: it goes on to no other type, and this type is not declared.
 #[inline(always)]
 pub fn is_alone(btf_type: &BtfType) -> bool
     ensures no_types { result ≡ true → length (value_types (record_of btf_type.now)) ≡ 0 }

@@ -10,6 +10,7 @@ mod names;
 mod needed;
 mod padding;
 mod params;
+mod prefix;
 mod spelling;
 mod task;
 mod tree;

@@ -14,6 +14,15 @@ use std::alloc::{AllocError, Global};
 use std::process::ExitCode;
 use std::{env, io};
 
+/// The size of the largest piece of memory that is taken from the heap of the allocator. glibc takes a larger piece from
+/// the system, which clears each page at its first use, until one of this size was freed (mallopt(3)).
+const LARGEST_PIECE: usize = 1 << 24;
+
+/// Lets the allocator use freed memory again for large pieces. A failure changes nothing but the speed.
+fn enlarge_heap_pieces(alloc: Global) {
+    drop(Vec::<u8>::with_capacity(alloc, LARGEST_PIECE));
+}
+
 /// The words of the command line, including the program's name.
 fn read_words(rt: &HostRuntime) -> io::Result<Vec<String>> {
     let mut words = Vec::new(rt.alloc());
@@ -42,6 +51,7 @@ fn print_error(rt: &HostRuntime, error: &Error) -> ExitCode {
 }
 
 fn main(rt: HostRuntime) -> ExitCode {
+    enlarge_heap_pieces(rt.alloc());
     let Ok(words) = read_words(&rt) else {
         let _ = eprintln!(rt; "btfobj: cannot read the command line");
         return ExitCode::from(2);

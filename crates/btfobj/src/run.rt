@@ -185,7 +185,7 @@ fn write_declarations<'a>(
     let bytes = read(rt, file)?;
     blame(
         file,
-        header(rt.alloc(), &bytes, base.as_ref(), names, kind, out),
+        header(rt.alloc(), bytes, base.as_ref(), names, kind, out),
     )
 }
 

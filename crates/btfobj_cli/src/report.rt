@@ -62,16 +62,18 @@ fn above<'a>(base: Option<&Btf>, selection: &Selection<'a>) -> Selection<'a> {
 
 /// Writes types of a file's table as a C header, as `write_header` does: the types of these names and this kind, and
 /// the types that they need; without names and a kind, all types. With a base, its types come first. The table is
-/// parsed before anything is written. The error is `NoType` if no type has one of the names, and the kind.
+/// parsed before anything is written, and then the bytes of the file are freed. The error is `NoType` if no type has one
+/// of the names, and the kind.
 pub fn header<W: Write>(
     alloc: Global,
-    bytes: &[u8],
+    bytes: Vec<u8>,
     base: Option<&Btf>,
     names: &[&str],
     kind: Option<BtfKind>,
     out: &mut W,
 ) -> Result<(), Fault> {
-    let table = InputFile::read(alloc, bytes)?.whole_table_over(alloc, base)?;
+    let table = InputFile::read(alloc, &bytes)?.whole_table_over(alloc, base)?;
+    drop(bytes);
     let mut text = TextBuffer::new(out);
     if names.is_empty() && kind.is_none() {
         write_header(alloc, &table, &HeaderTypes::All, &mut text)?;

@@ -53,7 +53,8 @@ pub fn compare_header(
     theirs: &[u8],
 ) -> anyhow::Result<()> {
     let mut ours = Vec::new(rt.alloc());
-    header(rt.alloc(), object, base, &[], None, &mut ours)?;
+    let bytes = Vec::from_slice(rt.alloc(), object)?;
+    header(rt.alloc(), bytes, base, &[], None, &mut ours)?;
     report(rt, sample, "bpftool's header", &ours, theirs)
 }
 

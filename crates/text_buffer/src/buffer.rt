@@ -42,6 +42,15 @@ impl<'a, W: Write> TextBuffer<'a, W> {
         if self.pending.try_push_str(text).is_ok() {
             return Ok(());
         }
+        self.put_after_flush(text)
+    }
+
+    /// Writes the buffer out, and then adds a text. A call of its own keeps the code of each `put` short.
+    #[cold]
+    #[inline(never)]
+    fn put_after_flush(&mut self, text: &str) -> fmt::Result
+        ensures { OnOk result (Takes W.contents self.old text.now self.new) }
+    {
         self.flush()?;
         if self.pending.try_push_str(text).is_ok() {
             return Ok(());

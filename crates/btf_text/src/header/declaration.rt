@@ -5,10 +5,10 @@ use crate::header::draft::Draft;
 use crate::header::enumeration::write_enumeration;
 use crate::header::members::begin_members;
 use crate::header::params::Params;
+use crate::header::prefix::Prefix;
 use crate::header::task::{Declaration, Label, Task};
-use crate::layout::keyword;
 use crate::word::{text_at, text_or_empty};
-use btf_plain::BtfError;
+use btf_plain::{BtfError, BtfMember};
 use btf_records::BtfType;
 use btf_table::{Btf, WALK_LIMIT};
 use std::fmt::Write;
@@ -23,11 +23,11 @@ pub struct Base<'a> {
 /// The type inside a pointer, an array, a prototype or a modifier; None for the other types.
 fn inner_of(btf_type: &BtfType) -> Option<u32> {
     match btf_type {
-        BtfType::Ptr(_)
-        | BtfType::Volatile(_)
-        | BtfType::Const(_)
-        | BtfType::Restrict(_)
-        | BtfType::TypeTag(_) => btf_type.btf_type(),
+        BtfType::Ptr(t) => Some(t.btf_type()),
+        BtfType::Volatile(t) => Some(t.btf_type()),
+        BtfType::Const(t) => Some(t.btf_type()),
+        BtfType::Restrict(t) => Some(t.btf_type()),
+        BtfType::TypeTag(t) => Some(t.btf_type()),
         BtfType::Array(t) => Some(t.array().element_type),
         BtfType::FuncProto(t) => Some(t.return_type()),
         _ => None,
@@ -79,6 +79,53 @@ pub fn has_no_tasks<W: Write>(draft: &Draft<'_, W>, base: &Base<'_>) -> bool {
         }
     }
     !base.btf_type.is_composite() || base.btf_type.name_offset() != 0
+}
+
+/// Whether the text before a name is the same each time: an enumeration without a name is written with its values,
+/// whose names get other numbers each time.
+fn is_repeated(base: &Base<'_>) -> bool {
+    match base.btf_type {
+        BtfType::Enum(t) => t.name_offset() != 0,
+        BtfType::Enum64(t) => t.name_offset() != 0,
+        _ => true,
+    }
+}
+
+/// Writes the declaration of a member if the text before its name is stored, and returns whether it is.
+pub fn write_known<W: Write>(
+    draft: &mut Draft<'_, W>,
+    member: &BtfMember,
+) -> Result<bool, TextError> {
+    let Some(prefix) = draft.prefixes.get(member.btf_type) else {
+        return Ok(false);
+    };
+    let read = text_at(draft.table, member.name_offset)?;
+    let name = text_or_empty(&read);
+    draft.out.write_str(prefix.text(!name.is_empty()))?;
+    if !name.is_empty() {
+        draft.write_name(name)?;
+    }
+    Ok(true)
+}
+
+/// Writes a declaration without tasks, whose chain the draft has, and stores the text before its name.
+pub fn write_whole<'a, W: Write>(
+    draft: &mut Draft<'a, W>,
+    base: &Base<'a>,
+    declaration: &Declaration,
+) -> Result<(), TextError> {
+    draft.out.begin_copy();
+    write_qualifiers(draft)?;
+    write_base(draft, base, declaration.level)?;
+    let is_after_pointer = write_links(draft, declaration)?;
+    let copy = draft.out.end_copy();
+    if let Some(copy) = copy
+        && is_repeated(base)
+    {
+        let prefix = Prefix::new(copy, is_after_pointer);
+        draft.prefixes.set(declaration.type_id, prefix);
+    }
+    write_label(draft, declaration.label, is_after_pointer)
 }
 
 /// Writes a declaration whose chain the draft has, around its base.
@@ -188,14 +235,25 @@ fn write_base<W: Write>(
     Ok(())
 }
 
+/// The keyword of a STRUCT, UNION, ENUM, ENUM64 or FWD with a space after it; empty for a type of another kind.
+fn tag(btf_type: &BtfType) -> &'static str {
+    match btf_type {
+        BtfType::Struct(_) => "struct ",
+        BtfType::Union(_) => "union ",
+        BtfType::Enum(_) | BtfType::Enum64(_) => "enum ",
+        BtfType::Fwd(t) if t.is_union() => "union ",
+        BtfType::Fwd(_) => "struct ",
+        _ => "",
+    }
+}
+
 /// Writes the keyword of a type with a name, and the name.
 pub fn write_tagged<W: Write>(
     draft: &mut Draft<'_, W>,
     type_id: u32,
     btf_type: &BtfType,
 ) -> Result<(), TextError> {
-    draft.out.write_str(keyword(btf_type))?;
-    draft.out.write_str(" ")?;
+    draft.out.write_str(tag(btf_type))?;
     draft.write_type_name(type_id)
 }
 
@@ -204,6 +262,15 @@ fn write_chain<'a, W: Write>(
     draft: &mut Draft<'a, W>,
     declaration: &Declaration,
 ) -> Result<(), TextError> {
+    let is_after_pointer = write_links(draft, declaration)?;
+    write_label(draft, declaration.label, is_after_pointer)
+}
+
+/// Writes the links of a draft's chain, and returns whether no space is needed before the name.
+fn write_links<'a, W: Write>(
+    draft: &mut Draft<'a, W>,
+    declaration: &Declaration,
+) -> Result<bool, TextError> {
     let mut is_after_pointer = false;
     for _ in 0..WALK_LIMIT {
         let Some(btf_type) = draft.chain.pop() else {
@@ -211,7 +278,7 @@ fn write_chain<'a, W: Write>(
         };
         is_after_pointer = write_link(draft, btf_type, declaration, is_after_pointer)?;
     }
-    write_label(draft, declaration.label, is_after_pointer)
+    Ok(is_after_pointer)
 }
 
 /// Writes a link of a chain, and returns whether no space is needed before what comes next.

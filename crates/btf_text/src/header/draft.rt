@@ -2,6 +2,7 @@
 
 use crate::error::TextError;
 use crate::header::names::Names;
+use crate::header::prefix::{Copier, Prefixes};
 use crate::header::task::Task;
 use btf_layout::Alignments;
 use btf_plain::{BtfError, BtfKind};
@@ -21,12 +22,13 @@ const STEPS_OF_BYTE: u64 = 4;
 
 /// The maximum number of steps of a header for a table.
 fn step_limit(table: &Btf) -> u64 {
-    let mut steps = MORE_STEPS;
+    let mut bytes = 0u64;
     for btf_type in table.types() {
-        let bytes = btf_type.type_info_size() as u64;
-        steps = steps.saturating_add(bytes.saturating_mul(STEPS_OF_BYTE));
+        bytes = bytes.saturating_add(btf_type.type_info_size() as u64);
     }
-    steps
+    bytes
+        .saturating_mul(STEPS_OF_BYTE)
+        .saturating_add(MORE_STEPS)
 }
 
 /// The name of the compiler's own type of argument lists, which a header cannot declare.
@@ -35,34 +37,38 @@ pub const ARGUMENT_LIST: &str = "__builtin_va_list";
 /// The size of an argument list on BPF in bytes: it is a pointer.
 const ARGUMENT_LIST_SIZE: usize = 8;
 
-/// The beginnings of lines by the number of tabs. No line has more.
+/// The end of a member and the beginning of the next line, by the number of tabs. No line has more. A write for both
+/// costs less than two.
 static LINES: [&str; 14] = [
-    "\n",
-    "\n\t",
-    "\n\t\t",
-    "\n\t\t\t",
-    "\n\t\t\t\t",
-    "\n\t\t\t\t\t",
-    "\n\t\t\t\t\t\t",
-    "\n\t\t\t\t\t\t\t",
-    "\n\t\t\t\t\t\t\t\t",
-    "\n\t\t\t\t\t\t\t\t\t",
-    "\n\t\t\t\t\t\t\t\t\t\t",
-    "\n\t\t\t\t\t\t\t\t\t\t\t",
-    "\n\t\t\t\t\t\t\t\t\t\t\t\t",
-    "\n\t\t\t\t\t\t\t\t\t\t\t\t\t",
+    ";\n",
+    ";\n\t",
+    ";\n\t\t",
+    ";\n\t\t\t",
+    ";\n\t\t\t\t",
+    ";\n\t\t\t\t\t",
+    ";\n\t\t\t\t\t\t",
+    ";\n\t\t\t\t\t\t\t",
+    ";\n\t\t\t\t\t\t\t\t",
+    ";\n\t\t\t\t\t\t\t\t\t",
+    ";\n\t\t\t\t\t\t\t\t\t\t",
+    ";\n\t\t\t\t\t\t\t\t\t\t\t",
+    ";\n\t\t\t\t\t\t\t\t\t\t\t\t",
+    ";\n\t\t\t\t\t\t\t\t\t\t\t\t\t",
 ];
 
 /// The output, and the state from declaration to declaration.
 #[derive(Drop)]
 pub struct Draft<'a, W> {
     pub table: &'a Btf,
-    pub out: &'a mut W,
+    pub out: Copier<'a, W>,
     pub names: Names,
+    pub prefixes: Prefixes,
     /// The parts of a declaration that are written next, the last one first.
     pub tasks: Vec<Task<'a>>,
     /// The pointers, arrays, prototypes and modifiers around the base of a type, the outermost first.
     pub chain: Vec<&'a BtfType>,
+    /// Whether the last line is a member, whose semicolon is not written.
+    pub is_after_member: bool,
     /// The TYPEDEF of the compiler's type of argument lists, if it is the type of another machine than BPF. The type
     /// that it is for is written in its place.
     pub argument_list: Option<u32>,
@@ -88,10 +94,12 @@ impl<'a, W: Write> Draft<'a, W> {
     pub fn new(alloc: Global, table: &'a Btf, out: &'a mut W) -> Result<Draft<'a, W>, TextError> {
         Ok(Draft {
             table,
-            out,
+            out: Copier::new(out),
             names: Names::new(alloc, table)?,
+            prefixes: Prefixes::new(alloc)?,
             tasks: Vec::new(alloc),
             chain: Vec::new(alloc),
+            is_after_member: false,
             argument_list: foreign_argument_list(table)?,
             alignments: Alignments::of_table(table)?,
             steps_left: step_limit(table),
@@ -140,26 +148,32 @@ impl<'a, W: Write> Draft<'a, W> {
         }
     }
 
-    /// Begins a line with tabs.
+    /// Ends the line of a member, if there is one, and begins a line with tabs.
     pub fn begin_line(&mut self, level: usize) -> Result<(), TextError> {
-        let beginning = LINES.get(level).or(LINES.last()).unwrap_or(&"\n");
-        self.out.write_str(beginning)?;
+        let beginning = LINES.get(level).or(LINES.last()).unwrap_or(&";\n");
+        let text = if self.is_after_member {
+            *beginning
+        } else {
+            beginning.get(1..).unwrap_or("\n")
+        };
+        self.is_after_member = false;
+        self.out.write_str(text)?;
         Ok(())
     }
 
     /// Writes the name of a type as an identifier, with its number.
     pub fn write_type_name(&mut self, type_id: u32) -> Result<(), TextError> {
-        self.names.write_type(self.table, type_id, &mut *self.out)
+        self.names.write_type(self.table, type_id, &mut self.out)
     }
 
     /// Writes the name of an INT or a FLOAT.
     pub fn write_number_type(&mut self, type_id: u32) -> Result<(), TextError> {
         self.names
-            .write_number_type(self.table, type_id, &mut *self.out)
+            .write_number_type(self.table, type_id, &mut self.out)
     }
 
     /// Writes the name of a member or parameter as an identifier.
     pub fn write_name(&mut self, text: &str) -> Result<(), TextError> {
-        self.names.write_plain(text, &mut *self.out)
+        self.names.write_plain(text, &mut self.out)
     }
 }

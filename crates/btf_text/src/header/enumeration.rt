@@ -3,6 +3,7 @@
 use crate::error::TextError;
 use crate::header::draft::Draft;
 use btf_records::{BtfType, Enum, Enum64};
+use itoa::Buffer;
 use std::fmt::Write;
 
 /// Writes the definition of an ENUM or an ENUM64, or its declaration if it has no variants.
@@ -34,15 +35,14 @@ fn write_variants<W: Write>(
         return Ok(());
     }
     draft.out.write_str(" {")?;
+    let mut digits = Buffer::new();
     for variant in enumeration.variants() {
-        let value = variant.value;
-        begin_variant(draft, variant.name_offset, level)?;
-        if enumeration.is_signed() {
-            let value = value.cast_signed();
-            write!(draft.out, " = {value},")?;
+        let value = if enumeration.is_signed() {
+            digits.format(variant.value.cast_signed())
         } else {
-            write!(draft.out, " = {value},")?;
-        }
+            digits.format(variant.value)
+        };
+        write_variant(draft, variant.name_offset, level, value, ",")?;
     }
     end_variants(draft, level)?;
     write_mode(draft, enumeration.size(), true)
@@ -58,14 +58,15 @@ fn write_variants64<W: Write>(
         return Ok(());
     }
     draft.out.write_str(" {")?;
+    let mut digits = Buffer::new();
     for variant in enumeration.variants() {
         let value = u64::from(variant.value_high) << 32 | u64::from(variant.value_low);
-        begin_variant(draft, variant.name_offset, level)?;
         if enumeration.is_signed() {
-            let value = value.cast_signed();
-            write!(draft.out, " = {value}LL,")?;
+            let value = digits.format(value.cast_signed());
+            write_variant(draft, variant.name_offset, level, value, "LL,")?;
         } else {
-            write!(draft.out, " = {value}ULL,")?;
+            let value = digits.format(value);
+            write_variant(draft, variant.name_offset, level, value, "ULL,")?;
         }
     }
     end_variants(draft, level)?;
@@ -101,17 +102,23 @@ fn write_mode<W: Write>(
     Ok(())
 }
 
-/// Begins the line of a variant with its name.
-fn begin_variant<W: Write>(
+/// Writes the line of a variant: its name, its value, and what ends the value.
+fn write_variant<W: Write>(
     draft: &mut Draft<'_, W>,
     name_offset: u32,
     level: usize,
+    value: &str,
+    end: &str,
 ) -> Result<(), TextError> {
     draft.count_step()?;
     draft.begin_line(level.saturating_add(1))?;
     draft
         .names
-        .write_value(draft.table, name_offset, &mut *draft.out)
+        .write_value(draft.table, name_offset, &mut draft.out)?;
+    draft.out.write_str(" = ")?;
+    draft.out.write_str(value)?;
+    draft.out.write_str(end)?;
+    Ok(())
 }
 
 /// Writes the brace after the last variant.

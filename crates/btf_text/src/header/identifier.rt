@@ -115,27 +115,38 @@ fn is_word_byte(byte: u8) -> bool {
     WORD_BYTES[byte as usize]
 }
 
-/// The number of bytes that the longest of the other words has.
-const KEYWORD_LEN: usize = 8;
-
-/// The other words that are no identifiers, by their first byte.
-fn keywords_from(first: u8) -> &'static [&'static str] {
-    match first {
-        b'a' => &["asm", "auto"],
-        b'b' => &["break"],
-        b'c' => &["case", "char", "const", "continue"],
-        b'd' => &["default", "do", "double"],
-        b'e' => &["else", "enum", "extern"],
-        b'f' => &["float", "for"],
-        b'g' => &["goto"],
-        b'i' => &["if", "inline", "int"],
-        b'l' => &["long"],
-        b'r' => &["register", "restrict", "return"],
-        b's' => &["short", "signed", "sizeof", "static", "struct", "switch"],
-        b't' => &["typedef", "typeof"],
-        b'u' => &["union", "unsigned"],
-        b'v' => &["void", "volatile"],
-        b'w' => &["while"],
+/// The other words that are no identifiers, by their first byte and their length.
+fn keywords_of(first: u8, len: usize) -> &'static [&'static str] {
+    match (first, len) {
+        (b'a', 3) => &["asm"],
+        (b'a', 4) => &["auto"],
+        (b'b', 5) => &["break"],
+        (b'c', 4) => &["case", "char"],
+        (b'c', 5) => &["const"],
+        (b'c', 8) => &["continue"],
+        (b'd', 2) => &["do"],
+        (b'd', 6) => &["double"],
+        (b'd', 7) => &["default"],
+        (b'e', 4) => &["else", "enum"],
+        (b'e', 6) => &["extern"],
+        (b'f', 3) => &["for"],
+        (b'f', 5) => &["float"],
+        (b'g', 4) => &["goto"],
+        (b'i', 2) => &["if"],
+        (b'i', 3) => &["int"],
+        (b'i', 6) => &["inline"],
+        (b'l', 4) => &["long"],
+        (b'r', 6) => &["return"],
+        (b'r', 8) => &["register", "restrict"],
+        (b's', 5) => &["short"],
+        (b's', 6) => &["signed", "sizeof", "static", "struct", "switch"],
+        (b't', 6) => &["typeof"],
+        (b't', 7) => &["typedef"],
+        (b'u', 5) => &["union"],
+        (b'u', 8) => &["unsigned"],
+        (b'v', 4) => &["void"],
+        (b'v', 8) => &["volatile"],
+        (b'w', 5) => &["while"],
         _ => &[],
     }
 }
@@ -144,7 +155,10 @@ fn keywords_from(first: u8) -> &'static [&'static str] {
 fn is_keyword(word: &str) -> bool {
     match word.as_bytes() {
         [b'_', b'_' | b'A'..=b'Z', ..] => RESERVED.binary_search(&word).is_ok(),
-        [first, rest @ ..] if rest.len() < KEYWORD_LEN => keywords_from(*first).contains(&word),
+        [first, ..] => match keywords_of(*first, word.len()) {
+            [] => false,
+            words => words.contains(&word),
+        },
         _ => false,
     }
 }
@@ -156,7 +170,8 @@ fn digit(number: u8) -> char {
 
 /// Adds an identifier for a text that is none: a byte that may not be in an identifier is written as its two
 /// hexadecimal digits between `_`, and `_` is added before a digit, after a keyword, and for an empty text.
-pub fn add_escaped(word: &mut String, text: &str) -> Result<(), AllocError> {
+#[inline(never)]
+fn add_escaped(word: &mut String, text: &str) -> Result<(), AllocError> {
     let bytes = text.as_bytes();
     if bytes.first().is_none_or(|first| first.is_ascii_digit()) {
         word.push_str("_")?;
@@ -175,4 +190,15 @@ pub fn add_escaped(word: &mut String, text: &str) -> Result<(), AllocError> {
         word.push_str("_")?;
     }
     Ok(())
+}
+
+/// The spelling of a name: its text if that is an identifier, and else the escaped text, for which the string is used.
+#[inline(always)]
+pub fn spell<'a>(escaped: &'a mut String, text: &'a str) -> Result<&'a str, AllocError> {
+    if is_identifier(text) {
+        return Ok(text);
+    }
+    escaped.clear();
+    add_escaped(escaped, text)?;
+    Ok(escaped.as_str())
 }

@@ -1,7 +1,9 @@
 //! The definitions of structures and unions.
 
 use crate::error::TextError;
-use crate::header::declaration::{Base, has_no_tasks, read_chain, write_around};
+use crate::header::declaration::{
+    Base, has_no_tasks, read_chain, write_around, write_known, write_whole,
+};
 use crate::header::draft::Draft;
 use crate::header::padding::{Gap, Next, round_up, write_padding};
 use crate::header::task::{Declaration, Label, Task};
@@ -91,31 +93,34 @@ pub fn write_next_members<'a, W: Write>(
 ) -> Result<(), TextError> {
     let mut state = *state;
     for member in state.group.members.get(state.index..).unwrap_or(&[]) {
-        let next = begin_member(draft, &state, member)?;
-        let base = read_chain(draft, member.btf_type)?;
-        if !has_no_tasks(draft, &base) {
-            return write_with_tasks(draft, &next, member, &base);
+        let bits = begin_member(draft, &mut state, member)?;
+        if !write_known(draft, member)? {
+            let declaration = state.declaration_of(member);
+            let base = read_chain(draft, member.btf_type)?;
+            if !has_no_tasks(draft, &base) {
+                return write_with_tasks(draft, &state, bits, &base, &declaration);
+            }
+            write_whole(draft, &base, &declaration)?;
         }
-        write_around(draft, &base, &next.declaration_of(member))?;
-        end_member(draft, next.group.bit_field_size(member))?;
+        end_member(draft, bits)?;
         // The end of this member, and the next one.
         draft.count_steps(2)?;
-        state = next;
     }
     end_members(draft, &state)
 }
 
-/// Writes a member whose declaration has tasks. The end of the member and the further members come after them.
+/// Writes the declaration of a member that has tasks. The end of the member, which is a bit-field of this number of bits
+/// or none, and the further members come after them.
 fn write_with_tasks<'a, W: Write>(
     draft: &mut Draft<'a, W>,
     next: &Members<'a>,
-    member: &BtfMember,
+    bits: u64,
     base: &Base<'a>,
+    declaration: &Declaration,
 ) -> Result<(), TextError> {
     draft.tasks.push(Task::Members(*next))?;
-    let bits = next.group.bit_field_size(member);
     draft.tasks.push(Task::EndMember(bits))?;
-    write_around(draft, base, &next.declaration_of(member))
+    write_around(draft, base, declaration)
 }
 
 /// The gap before a member.
@@ -144,12 +149,13 @@ fn gap_before<W: Write>(draft: &Draft<'_, W>, state: &Members<'_>, member: &BtfM
     }
 }
 
-/// Begins the line of a member, and returns the members after it.
-fn begin_member<'a, W: Write>(
-    draft: &mut Draft<'a, W>,
-    state: &Members<'a>,
+/// Begins the line of a member, goes on to the members after it, and returns the number of bits of a bit-field, which is
+/// 0 for another member.
+fn begin_member<W: Write>(
+    draft: &mut Draft<'_, W>,
+    state: &mut Members<'_>,
     member: &BtfMember,
-) -> Result<Members<'a>, TextError> {
+) -> Result<u64, TextError> {
     draft.count_step()?;
     let level = state.level.saturating_add(1);
     let gap = gap_before(draft, state, member);
@@ -162,24 +168,23 @@ fn begin_member<'a, W: Write>(
         draft.bits_of(member.btf_type)
     };
     let end = gap.to.saturating_add(width);
-    Ok(Members {
-        index: state.index.saturating_add(1),
-        end: if state.group.is_union {
-            end.max(state.end)
-        } else {
-            end
-        },
-        is_after_bit_field: bits > 0,
-        ..*state
-    })
+    state.index = state.index.saturating_add(1);
+    state.end = if state.group.is_union {
+        end.max(state.end)
+    } else {
+        end
+    };
+    state.is_after_bit_field = bits > 0;
+    Ok(bits)
 }
 
-/// Writes the end of a member's declaration, with the number of bits of a bit-field, which is 0 for another member.
+/// Ends a member's declaration, with the number of bits of a bit-field, which is 0 for another member. The next line
+/// has the semicolon.
 pub fn end_member<W: Write>(draft: &mut Draft<'_, W>, bits: u64) -> Result<(), TextError> {
     if bits > 0 {
         write!(draft.out, ": {bits}")?;
     }
-    draft.out.write_str(";")?;
+    draft.is_after_member = true;
     Ok(())
 }
 

@@ -1,7 +1,7 @@
 //! The names of types and values. Each is written once: a further type of a name has a number after it.
 
 use crate::error::TextError;
-use crate::header::identifier::{add_escaped, is_identifier, is_number_name};
+use crate::header::identifier::{is_identifier, is_number_name, spell};
 use crate::header::uses::{Naming, Tag, Uses};
 use crate::word::{text_at, text_or_empty};
 use btf_records::BtfType;
@@ -125,10 +125,7 @@ impl Names {
         let text = text_or_empty(&read);
         match self.known_form(type_id, text, is_number) {
             Form::Plain => out.write_str(text)?,
-            Form::Escaped => {
-                self.escape(text)?;
-                out.write_str(self.escaped.as_str())?;
-            }
+            Form::Escaped => out.write_str(spell(&mut self.escaped, text)?)?,
         }
         Ok(())
     }
@@ -173,9 +170,7 @@ impl Names {
         is_tag: bool,
     ) -> Result<u32, TextError> {
         let read = text_at(table, name_offset)?;
-        let text = text_or_empty(&read);
-        let is_plain = self.examine(text)?;
-        let written = written_of(text, self.escaped.as_str(), is_plain);
+        let written = spell(&mut self.escaped, text_or_empty(&read))?;
         if is_tag {
             self.tags.count(table, name_offset, written, naming)
         } else {
@@ -191,9 +186,7 @@ impl Names {
         out: &mut W,
     ) -> Result<(), TextError> {
         let read = text_at(table, name_offset)?;
-        let text = text_or_empty(&read);
-        let is_plain = self.examine(text)?;
-        let written = written_of(text, self.escaped.as_str(), is_plain);
+        let written = spell(&mut self.escaped, text_or_empty(&read))?;
         let naming = Naming::defined(Tag::Other);
         let number = self.identifiers.count(table, name_offset, written, naming)?;
         out.write_str(written)?;
@@ -202,30 +195,9 @@ impl Names {
 
     /// Writes a text as an identifier, without a number.
     pub fn write_plain<W: Write>(&mut self, text: &str, out: &mut W) -> Result<(), TextError> {
-        let is_plain = self.examine(text)?;
-        out.write_str(written_of(text, self.escaped.as_str(), is_plain))?;
+        out.write_str(spell(&mut self.escaped, text)?)?;
         Ok(())
     }
-
-    /// Whether a text is an identifier. The spelling of another text is then set.
-    fn examine(&mut self, text: &str) -> Result<bool, AllocError> {
-        if is_identifier(text) {
-            return Ok(true);
-        }
-        self.escape(text)?;
-        Ok(false)
-    }
-
-    /// Sets the spelling of a name that is no identifier.
-    fn escape(&mut self, text: &str) -> Result<(), AllocError> {
-        self.escaped.clear();
-        add_escaped(&mut self.escaped, text)
-    }
-}
-
-/// The spelling of a text: the text itself if it is an identifier, and else this escaped one.
-fn written_of<'a>(text: &'a str, escaped: &'a str, is_plain: bool) -> &'a str {
-    if is_plain { text } else { escaped }
 }
 
 /// Writes the number after a name; nothing for the first type of the name.

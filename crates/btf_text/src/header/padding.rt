@@ -173,16 +173,22 @@ impl Gap {
     }
 }
 
-/// Writes the bit-fields that fill a gap: those that `bpftool` writes, if a compiler then places what comes next where
-/// it is, and otherwise bit-fields that end at every boundary.
+/// Fills a gap, if there is one: most members have none before them.
+#[inline(always)]
 pub fn write_padding<W: Write>(
     draft: &mut Draft<'_, W>,
     gap: &Gap,
     level: usize,
 ) -> Result<(), TextError> {
-    if gap.from >= gap.to {
-        return Ok(());
+    if gap.from < gap.to {
+        fill(draft, gap, level)?;
     }
+    Ok(())
+}
+
+/// Writes the bit-fields that fill a gap: those that `bpftool` writes, if a compiler then places what comes next where
+/// it is, and otherwise bit-fields that end at every boundary.
+fn fill<W: Write>(draft: &mut Draft<'_, W>, gap: &Gap, level: usize) -> Result<(), TextError> {
     let filling = gap.filling();
     if gap.place_next(gap.end_of(&filling)) == gap.to {
         write_filling(draft, &filling, level)

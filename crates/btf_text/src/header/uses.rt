@@ -5,7 +5,7 @@
 //! of spellings, so that a table whose names have equal hashes takes no more comparisons.
 
 use crate::error::TextError;
-use crate::header::identifier::{add_escaped, is_identifier};
+use crate::header::identifier::spell;
 use crate::header::spelling::{Spelling, split_number};
 use crate::header::tree::{LONGEST_WAY, Link, Side, Trees};
 use crate::word::{text_at, text_or_empty};
@@ -221,12 +221,6 @@ impl Uses {
         name: &Spelling<'_>,
     ) -> Result<Ordering, TextError> {
         let read = text_at(table, name_offset)?;
-        let text = text_or_empty(&read);
-        if is_identifier(text) {
-            return Ok(text.cmp(name.text));
-        }
-        self.escaped.clear();
-        add_escaped(&mut self.escaped, text)?;
-        Ok(self.escaped.as_str().cmp(name.text))
+        Ok(spell(&mut self.escaped, text_or_empty(&read))?.cmp(name.text))
     }
 }

@@ -52,6 +52,17 @@ struct State {
     walked: Walked,
 }
 
+/// What comes of a type to which the walk comes.
+#[derive(Clone, Copy)]
+enum Visit {
+    /// Nothing has to be declared before.
+    Passes,
+    /// It is the STRUCT or UNION in whose declaration it is used.
+    Contains,
+    /// It waits for the types that it refers to.
+    Waits(Frame),
+}
+
 /// A type that waits for the types that it refers to.
 #[derive(Clone, Copy)]
 struct Frame {
@@ -88,31 +99,46 @@ fn child_of(btf_type: &BtfType, index: usize) -> Option<u32> {
 fn has_declaration(btf_type: &BtfType) -> bool {
     match btf_type {
         BtfType::Typedef(_) => true,
-        _ => btf_type.is_composite() && btf_type.name_offset() != 0,
+        BtfType::Struct(t) => t.name_offset() != 0,
+        BtfType::Union(t) => t.name_offset() != 0,
+        _ => false,
     }
 }
 
-/// The type behind pointers, arrays and modifiers: the first type that is none of these. The error is
+/// The type behind pointers, arrays and modifiers, and its id: the first type that is none of these. The error is
 /// `MaximumTypeDepthReached` if the first 32 types are.
-fn behind<W: Write>(draft: &Draft<'_, W>, type_id: u32) -> Result<u32, BtfError> {
+fn behind<'a, W: Write>(
+    draft: &Draft<'a, W>,
+    type_id: u32,
+) -> Result<(u32, &'a BtfType), BtfError> {
     let mut id = type_id;
     for _ in 0..WALK_LIMIT {
         id = draft.in_place_of(id);
-        let inner = match draft.table.type_by_id(id)? {
+        let btf_type = draft.table.type_by_id(id)?;
+        id = match btf_type {
             BtfType::Ptr(t) => t.btf_type(),
             BtfType::Volatile(t) => t.btf_type(),
             BtfType::Const(t) => t.btf_type(),
             BtfType::Restrict(t) => t.btf_type(),
             BtfType::TypeTag(t) => t.btf_type(),
             BtfType::Array(t) => t.array().element_type,
-            _ => return Ok(id),
+            _ => return Ok((id, btf_type)),
         };
-        id = inner;
     }
     Err(BtfError::MaximumTypeDepthReached { type_id })
 }
 
 impl Frame {
+    /// A type before the first type that it refers to.
+    fn new(type_id: u32, origin: Origin) -> Frame {
+        Frame {
+            type_id,
+            next: 0,
+            origin,
+            is_within: false,
+        }
+    }
+
     /// From where the walk comes to the types that this one refers to.
     fn inner_origin(&self, btf_type: &BtfType) -> Origin {
         if has_declaration(btf_type) {
@@ -146,33 +172,43 @@ impl Walk {
         if draft.argument_list == Some(type_id) {
             return Ok(());
         }
-        self.visit(draft, type_id, Origin::Top)?;
+        if let Visit::Waits(frame) = self.visit(draft, type_id, Origin::Top)? {
+            self.stack.push(frame)?;
+        }
         for _ in 0..u64::MAX {
             let Some(frame) = self.stack.pop() else {
                 return Ok(());
             };
-            draft.count_step()?;
             self.advance(draft, frame)?;
         }
         Err(TextError::TooLong)
     }
 
-    /// Goes on from a type to the next type that it refers to, or back after the last one.
+    /// Goes on from a type to the types that it refers to, up to the first that waits for others, or back after the
+    /// last one.
     fn advance<W: Write>(
         &mut self,
         draft: &mut Draft<'_, W>,
         frame: Frame,
     ) -> Result<(), TextError> {
+        let mut frame = frame;
         let btf_type = draft.table.type_by_id(frame.type_id)?;
-        let Some(child) = child_of(btf_type, frame.next) else {
-            return self.close(draft, frame, btf_type);
-        };
-        self.stack.push(Frame {
-            next: frame.next.saturating_add(1),
-            ..frame
-        })?;
         let origin = frame.inner_origin(btf_type);
-        self.visit(draft, child, origin)
+        while let Some(child) = child_of(btf_type, frame.next) {
+            draft.count_step()?;
+            frame.next = frame.next.saturating_add(1);
+            match self.visit(draft, child, origin)? {
+                Visit::Passes => {}
+                Visit::Contains => frame.is_within = true,
+                Visit::Waits(inner) => {
+                    self.stack.push(frame)?;
+                    self.stack.push(inner)?;
+                    return Ok(());
+                }
+            }
+        }
+        draft.count_step()?;
+        self.close(draft, frame, btf_type)
     }
 
     /// The state of a type.
@@ -189,24 +225,20 @@ impl Walk {
         draft: &mut Draft<'_, W>,
         type_id: u32,
         origin: Origin,
-    ) -> Result<(), TextError> {
-        let id = behind(draft, type_id)?;
-        let btf_type = draft.table.type_by_id(id)?;
-        let is_named = btf_type.name_offset() != 0;
+    ) -> Result<Visit, TextError> {
+        let (id, btf_type) = behind(draft, type_id)?;
         match btf_type {
-            BtfType::Int(_) => self.declare_once(draft, id, btf_type),
-            BtfType::Fwd(_) => self.declare_once(draft, id, btf_type),
-            BtfType::Enum(_) | BtfType::Enum64(_) if origin == Origin::Top => {
-                self.declare_once(draft, id, btf_type)
-            }
-            BtfType::Typedef(_) => self.visit_typedef(draft, id),
-            BtfType::Struct(_) | BtfType::Union(_) if is_named => {
-                self.visit_tagged(draft, id, origin)
-            }
+            BtfType::Struct(t) if t.name_offset() != 0 => self.visit_tagged(draft, id, origin),
+            BtfType::Union(t) if t.name_offset() != 0 => self.visit_tagged(draft, id, origin),
             BtfType::Struct(_) | BtfType::Union(_) | BtfType::FuncProto(_) => {
                 self.visit_nameless(id, origin)
             }
-            _ => Ok(()),
+            BtfType::Typedef(_) => self.visit_typedef(draft, id),
+            BtfType::Int(_) | BtfType::Fwd(_) => self.declare_once(draft, id, btf_type),
+            BtfType::Enum(_) | BtfType::Enum64(_) if origin == Origin::Top => {
+                self.declare_once(draft, id, btf_type)
+            }
+            _ => Ok(Visit::Passes),
         }
     }
 
@@ -216,17 +248,18 @@ impl Walk {
         draft: &mut Draft<'_, W>,
         type_id: u32,
         btf_type: &BtfType,
-    ) -> Result<(), TextError> {
+    ) -> Result<Visit, TextError> {
         let state = self.state_of(type_id)?;
         if matches!(state.mark, Mark::Written) {
-            return Ok(());
+            return Ok(Visit::Passes);
         }
         state.mark = Mark::Written;
         match btf_type {
-            BtfType::Int(_) => write_alias(draft, type_id, btf_type),
-            BtfType::Fwd(_) => write_forward(draft, type_id, btf_type),
-            _ => write_definition(draft, type_id),
+            BtfType::Int(_) => write_alias(draft, type_id, btf_type)?,
+            BtfType::Fwd(_) => write_forward(draft, type_id, btf_type)?,
+            _ => write_definition(draft, type_id)?,
         }
+        Ok(Visit::Passes)
     }
 
     /// The walk comes to a TYPEDEF. It is declared before the types that refer to it, even behind a pointer.
@@ -234,15 +267,16 @@ impl Walk {
         &mut self,
         draft: &mut Draft<'_, W>,
         type_id: u32,
-    ) -> Result<(), TextError> {
+    ) -> Result<Visit, TextError> {
         let state = self.state_of(type_id)?;
         match state.mark {
             Mark::New => self.open(type_id, Origin::Top),
             Mark::Open if !state.is_forward => {
                 state.is_forward = true;
-                write_typedef(draft, type_id)
+                write_typedef(draft, type_id)?;
+                Ok(Visit::Passes)
             }
-            _ => Ok(()),
+            _ => Ok(Visit::Passes),
         }
     }
 
@@ -253,56 +287,40 @@ impl Walk {
         draft: &mut Draft<'_, W>,
         type_id: u32,
         origin: Origin,
-    ) -> Result<(), TextError> {
+    ) -> Result<Visit, TextError> {
         let state = self.state_of(type_id)?;
         let is_new = matches!(state.mark, Mark::New);
         if is_new && origin == Origin::Top {
             return self.open(type_id, origin);
         }
         if matches!(state.mark, Mark::Written) || state.is_forward {
-            return Ok(());
+            return Ok(Visit::Passes);
         }
         if origin == Origin::Inside(type_id) {
-            self.mark_within();
-            return Ok(());
+            return Ok(Visit::Contains);
         }
         state.is_forward = true;
         let btf_type = draft.table.type_by_id(type_id)?;
-        write_forward(draft, type_id, btf_type)
+        write_forward(draft, type_id, btf_type)?;
+        Ok(Visit::Passes)
     }
 
     /// The walk comes to a type that is written where it is used. It goes on to the types that it refers to, if an
     /// earlier walk left one undeclared.
-    fn visit_nameless(&mut self, type_id: u32, origin: Origin) -> Result<(), TextError> {
+    fn visit_nameless(&mut self, type_id: u32, origin: Origin) -> Result<Visit, TextError> {
         let state = self.state_of(type_id)?;
         match state.walked {
-            Walked::Whole => Ok(()),
-            Walked::Within(container) if origin == Origin::Inside(container) => {
-                self.mark_within();
-                Ok(())
-            }
-            _ if matches!(state.mark, Mark::Open) => Ok(()),
+            Walked::Whole => Ok(Visit::Passes),
+            Walked::Within(container) if origin == Origin::Inside(container) => Ok(Visit::Contains),
+            _ if matches!(state.mark, Mark::Open) => Ok(Visit::Passes),
             _ => self.open(type_id, origin),
         }
     }
 
     /// The walk goes on to the types that a type refers to.
-    fn open(&mut self, type_id: u32, origin: Origin) -> Result<(), TextError> {
+    fn open(&mut self, type_id: u32, origin: Origin) -> Result<Visit, TextError> {
         self.state_of(type_id)?.mark = Mark::Open;
-        self.stack.push(Frame {
-            type_id,
-            next: 0,
-            origin,
-            is_within: false,
-        })?;
-        Ok(())
-    }
-
-    /// The last type of the stack refers to the STRUCT or UNION in whose declaration it is.
-    fn mark_within(&mut self) {
-        if let Some(frame) = self.stack.last_mut() {
-            frame.is_within = true;
-        }
+        Ok(Visit::Waits(Frame::new(type_id, origin)))
     }
 
     /// The walk goes back from a type.
@@ -333,8 +351,10 @@ impl Walk {
             Origin::Inside(container) if frame.is_within => Walked::Within(container),
             _ => Walked::Whole,
         };
-        if frame.is_within {
-            self.mark_within();
+        if frame.is_within
+            && let Some(outer) = self.stack.last_mut()
+        {
+            outer.is_within = true;
         }
         Ok(())
     }

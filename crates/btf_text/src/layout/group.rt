@@ -1,14 +1,14 @@
 //! Structures and unions, and the positions of their members.
 
-use btf_plain::{BtfError, BtfMember};
+use btf_plain::{BtfError, BtfMember, bit_field_size, bit_offset};
 use btf_records::BtfType;
 use btf_table::Btf;
 
 /// A structure or a union.
 #[derive(Clone, Copy)]
 pub struct Group<'a> {
-    /// The type, which is a STRUCT or a UNION.
-    btf_type: &'a BtfType,
+    /// The info word, whose highest bit says whether members can be bit-fields.
+    info: u32,
     /// Whether it is a union, whose members overlap.
     pub is_union: bool,
     /// The size in bytes.
@@ -38,13 +38,13 @@ impl<'a> Group<'a> {
     pub fn of(btf_type: &'a BtfType) -> Option<Group<'a>> {
         match btf_type {
             BtfType::Struct(t) => Some(Group {
-                btf_type,
+                info: t.info(),
                 is_union: false,
                 size: t.size(),
                 members: t.members(),
             }),
             BtfType::Union(t) => Some(Group {
-                btf_type,
+                info: t.info(),
                 is_union: true,
                 size: t.size(),
                 members: t.members(),
@@ -60,12 +60,12 @@ impl<'a> Group<'a> {
 
     /// The first bit of a member.
     pub fn bit_offset(&self, member: &BtfMember) -> u64 {
-        self.btf_type.member_bit_offset(member).unwrap_or(0) as u64
+        bit_offset(self.info, member) as u64
     }
 
     /// The number of bits of a bit-field; 0 for another member.
     pub fn bit_field_size(&self, member: &BtfMember) -> u64 {
-        self.btf_type.member_bit_field_size(member).unwrap_or(0) as u64
+        bit_field_size(self.info, member) as u64
     }
 
     /// The position of the member of this index. The integer of a bit-field begins at a multiple of its own size. The
