@@ -93,20 +93,33 @@ pub fn write_next_members<'a, W: Write>(
 ) -> Result<(), TextError> {
     let mut state = *state;
     for member in state.group.members.get(state.index..).unwrap_or(&[]) {
-        let bits = begin_member(draft, &mut state, member)?;
-        if !write_known(draft, member)? {
-            let declaration = state.declaration_of(member);
-            let base = read_chain(draft, member.btf_type)?;
-            if !has_no_tasks(draft, &base) {
-                return write_with_tasks(draft, &state, bits, &base, &declaration);
-            }
-            write_whole(draft, &base, &declaration)?;
+        if !write_member(draft, &mut state, member)? {
+            return Ok(());
         }
-        end_member(draft, bits)?;
-        // The end of this member, and the next one.
-        draft.count_steps(2)?;
     }
     end_members(draft, &state)
+}
+
+/// Writes the next member of a STRUCT or UNION, and returns whether it has no tasks.
+fn write_member<'a, W: Write>(
+    draft: &mut Draft<'a, W>,
+    state: &mut Members<'a>,
+    member: &BtfMember,
+) -> Result<bool, TextError> {
+    let bits = begin_member(draft, state, member)?;
+    if !write_known(draft, member)? {
+        let declaration = state.declaration_of(member);
+        let base = read_chain(draft, member.btf_type)?;
+        if !has_no_tasks(draft, &base) {
+            write_with_tasks(draft, state, bits, &base, &declaration)?;
+            return Ok(false);
+        }
+        write_whole(draft, &base, &declaration)?;
+    }
+    end_member(draft, bits)?;
+    // The end of this member, and the next one.
+    draft.count_steps(2)?;
+    Ok(true)
 }
 
 /// Writes the declaration of a member that has tasks. The end of the member, which is a bit-field of this number of bits

@@ -194,21 +194,40 @@ impl Walk {
         let mut frame = frame;
         let btf_type = draft.table.type_by_id(frame.type_id)?;
         let origin = frame.inner_origin(btf_type);
-        while let Some(child) = child_of(btf_type, frame.next) {
+        for index in frame.next..usize::MAX {
             draft.count_step()?;
-            frame.next = frame.next.saturating_add(1);
-            match self.visit(draft, child, origin)? {
-                Visit::Passes => {}
-                Visit::Contains => frame.is_within = true,
-                Visit::Waits(inner) => {
-                    self.stack.push(frame)?;
-                    self.stack.push(inner)?;
-                    return Ok(());
-                }
+            let Some(child) = child_of(btf_type, index) else {
+                return self.close(draft, frame, btf_type);
+            };
+            frame.next = index.saturating_add(1);
+            if self.goes_down(draft, &mut frame, child, origin)? {
+                return Ok(());
             }
         }
-        draft.count_step()?;
-        self.close(draft, frame, btf_type)
+        Err(TextError::TooLong)
+    }
+
+    /// The walk comes from a type to one that it refers to. Returns whether this one waits for others, so that both are
+    /// on the stack.
+    fn goes_down<W: Write>(
+        &mut self,
+        draft: &mut Draft<'_, W>,
+        frame: &mut Frame,
+        child: u32,
+        origin: Origin,
+    ) -> Result<bool, TextError> {
+        match self.visit(draft, child, origin)? {
+            Visit::Passes => Ok(false),
+            Visit::Contains => {
+                frame.is_within = true;
+                Ok(false)
+            }
+            Visit::Waits(inner) => {
+                self.stack.push(*frame)?;
+                self.stack.push(inner)?;
+                Ok(true)
+            }
+        }
     }
 
     /// The state of a type.
