@@ -1,7 +1,8 @@
 /*
  * Times the works of C callers beside libbpf, in turns: works TABLE [ROUNDS]. Each line has the name of the work, the
  * least time of a round in microseconds of a table, of a view and of libbpf, and the quotients of the first two and
- * libbpf's. All sides sum what they read, and the program ends with status 1 if the sums differ.
+ * libbpf's. All sides sum what they read, and the program ends with status 1 if the sums differ. Before each timed run
+ * the same work runs once untimed, so that no side pays for what the side before it left in the caches.
  *
  *   cc -O2 bindings/c/bench/works.c -Ibindings/c -LFOLDER -lvbtf -lbpf -lelf -lz -o works
  */
@@ -318,6 +319,7 @@ static double microseconds(uint64_t (*work)(void), uint64_t *sum)
 {
 	struct timespec from, to;
 
+	work();
 	clock_gettime(CLOCK_MONOTONIC, &from);
 	*sum = work();
 	clock_gettime(CLOCK_MONOTONIC, &to);
