@@ -2,9 +2,9 @@
 
 use vbtf::{Endianness, Error, Relocate, Table};
 
-/// A file that clang made for `crates/relocated_objects`.
+/// A file that clang made for `crates/known_answers`.
 fn file(name: &str) -> Vec<u8> {
-    let folder = concat!(env!("CARGO_MANIFEST_DIR"), "/../../../crates/relocated_objects/data");
+    let folder = concat!(env!("CARGO_MANIFEST_DIR"), "/../../../crates/known_answers/data");
     std::fs::read(format!("{folder}/{name}")).unwrap()
 }
 

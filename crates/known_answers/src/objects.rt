@@ -2,12 +2,11 @@
 //! expected output is the code that libbpf 1.1.2 makes of the same files (`bpf_program__insns` after
 //! `bpf_object__load`). clang 14 made both files of `prog.c` and `kernel.c` (`-target bpf -g -O2`); the table was taken
 //! out with `llvm-objcopy`. The object that is also rewritten for Linux 5.4 has the same code.
-#![tactic(auto)]
 
 use btf_elf::Object;
 use btf_loader::{CandidatePolicy, Refusals, Target, prepare_object, relocate_object};
-use btf_model::Endianness;
 use btf_object::{FillPolicy, Kernel};
+use btf_plain::Endianness;
 use btf_table::Btf;
 use std::fs;
 use std::test::Fail;
@@ -30,16 +29,17 @@ fn print_object(rt: &HostRuntime, file: &[u8]) -> Result<(), Fail> {
     print_code(rt, &object, "xdp")
 }
 
-fn main(rt: HostRuntime) -> Result<(), Fail> {
+/// Relocates the object, and then relocates and rewrites it in one call.
+pub fn run(rt: &HostRuntime) -> Result<(), Fail> {
     let alloc = rt.alloc();
-    let table = Btf::parse(alloc, &fs::read(&rt, "kernel.btf")?, Endianness::Little)?;
+    let table = Btf::parse(alloc, &fs::read(rt, "kernel.btf")?, Endianness::Little)?;
     let target = Target::new(alloc, &table)?;
-    let program = fs::read(&rt, "prog.o")?;
+    let program = fs::read(rt, "prog.o")?;
     let (policy, refusals) = (CandidatePolicy::Shared, Refusals::Refuse);
     let (file, _) = relocate_object(alloc, &program, &target, policy, refusals)?;
-    print_object(&rt, &file)?;
+    print_object(rt, &file)?;
     let kernel = Kernel::of_version("5.4").ok_or("no version of Linux")?;
     let fill = FillPolicy::KeepSized;
     let prepared = prepare_object(alloc, &program, &target, policy, refusals, &kernel, fill)?;
-    print_object(&rt, &prepared.file)
+    print_object(rt, &prepared.file)
 }

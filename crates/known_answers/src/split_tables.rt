@@ -1,15 +1,22 @@
-//! A line of the input: a base, and a split table over it.
+//! Reads small split tables over their bases, and writes what becomes of each. A line of the input is
+//! `NAME ORDER BASE ORDER SPLIT`, with the bytes of both blobs in hexadecimal digits. The expected names, ids and errors
+//! were worked out by hand, and the bytes by a script that only knows the format.
 
-use btf_model::Endianness;
-use btf_plain::BtfError;
+use crate::word::{bytes_of, table_of};
+use btf_plain::{BtfError, Endianness};
 use btf_split::{append_split, looks_split, parse_split, split_bytes, string_len, truncate};
 use btf_table::{Btf, type_count};
 use std::alloc::{AllocError, Global};
+use std::fs;
 use std::test::Fail;
 
-/// The bytes of hexadecimal digits.
-fn bytes_of(alloc: Global, digits: Option<&str>) -> Result<Vec<u8>, Fail> {
-    Ok(hex::decode(alloc, digits.ok_or("bytes are missing")?)?)
+/// Reads the split tables of the input.
+pub fn run(rt: &HostRuntime) -> Result<(), Fail> {
+    let text = fs::read_to_string(rt, "split_tables")?;
+    for line in text.as_str().lines() {
+        run_line(rt, line)?;
+    }
+    Ok(())
 }
 
 /// The byte order of its name.
@@ -36,12 +43,12 @@ fn digits_of(alloc: Global, bytes: &Result<Vec<u8>, BtfError>) -> Result<String,
 }
 
 /// Writes whether the split table of a line looks like one, reads it over its base, and writes the table or the error.
-pub fn run(rt: &(impl Print + AllocGlobal), line: &str) -> Result<(), Fail> {
+fn run_line(rt: &(impl Print + AllocGlobal), line: &str) -> Result<(), Fail> {
     let alloc = rt.alloc();
     let mut words = line.split(' ');
     let name = words.next().unwrap_or("");
     let order = order_of(words.next());
-    let base = Btf::parse(alloc, &bytes_of(alloc, words.next())?, order)?;
+    let base = table_of(alloc, words.next(), order)?;
     let order = order_of(words.next());
     let split = bytes_of(alloc, words.next())?;
     println!(rt; "{name} looks split: {}", looks_split(&split, order))?;
