@@ -32,7 +32,7 @@ static KINDS: [&str; 19] = [
 
 /// The whole command line.
 pub fn command<'a>(alloc: Global) -> Result<Command<'a>, AllocError> {
-    Command::new(alloc, "btfobj")
+    let command = Command::new(alloc, "btfobj")
         .version(VERSION)
         .about("Reads and rewrites the BTF of ELF objects, and BTF tables alone")
         .subcommand_required(true)
@@ -41,11 +41,25 @@ pub fn command<'a>(alloc: Global) -> Result<Command<'a>, AllocError> {
             "FILE is an ELF object or a BTF table of either byte order; - is standard input.\n\
              Exit status: 0, 1 where a file is refused or a check says no, 2 for the command line,\n\
              3 where a relocation poisons its instruction.",
-        )
+        );
+    with_kernel_commands(alloc, with_text_commands(alloc, command)?)
+}
+
+/// Adds the commands that write text.
+fn with_text_commands<'a>(alloc: Global, command: Command<'a>) -> Result<Command<'a>, AllocError> {
+    command
         .subcommand(dump(alloc)?)?
         .subcommand(header(alloc)?)?
         .subcommand(layout(alloc)?)?
-        .subcommand(ext(alloc)?)?
+        .subcommand(ext(alloc)?)
+}
+
+/// Adds the commands that are about a kernel.
+fn with_kernel_commands<'a>(
+    alloc: Global,
+    command: Command<'a>,
+) -> Result<Command<'a>, AllocError> {
+    command
         .subcommand(check(alloc)?)?
         .subcommand(sanitize(alloc)?)?
         .subcommand(relocate(alloc)?)?
@@ -73,22 +87,49 @@ fn base<'a>(alloc: Global, of: &'a str) -> Arg<'a> {
         .help(help)
 }
 
+/// An option with a value, and the help for it.
+fn option<'a>(alloc: Global, name: &'a str, value: &'a str, help: &'a str) -> Arg<'a> {
+    Arg::new(alloc, name)
+        .long(name)
+        .value_name(value)
+        .help(help)
+}
+
+/// A flag, and the help for it.
+fn flag<'a>(alloc: Global, name: &'a str, help: &'a str) -> Arg<'a> {
+    Arg::new(alloc, name)
+        .long(name)
+        .action(ArgAction::SetTrue)
+        .help(help)
+}
+
+/// The file that is written.
+fn output<'a>(alloc: Global, help: &'a str) -> Arg<'a> {
+    option(alloc, "output", "OUT", help).short('o')
+}
+
+/// The names of types.
+fn names<'a>(alloc: Global, help: &'a str) -> Arg<'a> {
+    Arg::new(alloc, "names")
+        .value_name("NAME")
+        .num_args(1..)
+        .help(help)
+}
+
 /// The command `dump`.
 fn dump<'a>(alloc: Global) -> Result<Command<'a>, AllocError> {
-    let ids = Arg::new(alloc, "ids").long("ids").value_name("A..B").help(
-        "Only ids from A on and below B, either of which may be left out; or only this id",
-    );
-    let name = Arg::new(alloc, "name")
-        .long("name")
-        .value_name("TEXT")
-        .help("Only types of this name");
     Command::new(alloc, "dump")
         .about("Writes every type, as bpftool btf dump file FILE format raw does")
         .after_help("Example: btfobj dump /sys/kernel/btf/vmlinux --name task_struct --kind struct")
         .arg(file(alloc, "file", "FILE", "The object or table"))?
         .arg(base(alloc, "FILE"))?
-        .arg(ids)?
-        .arg(name)?
+        .arg(option(
+            alloc,
+            "ids",
+            "A..B",
+            "Only ids from A on and below B, either of which may be left out; or only this id",
+        ))?
+        .arg(option(alloc, "name", "TEXT", "Only types of this name"))?
         .arg(kind(alloc))
 }
 
@@ -104,10 +145,6 @@ fn kind<'a>(alloc: Global) -> Arg<'a> {
 
 /// The command `header`.
 fn header<'a>(alloc: Global) -> Result<Command<'a>, AllocError> {
-    let names = Arg::new(alloc, "names")
-        .value_name("NAME")
-        .num_args(1..)
-        .help("Only types of these names, and the types that they need");
     Command::new(alloc, "header")
         .about("Writes the types as a C header, as bpftool btf dump file FILE format c does")
         .after_help(
@@ -115,7 +152,10 @@ fn header<'a>(alloc: Global) -> Result<Command<'a>, AllocError> {
              btfobj header vmlinux task_struct sk_buff --kind struct",
         )
         .arg(file(alloc, "file", "FILE", "The object or table"))?
-        .arg(names)?
+        .arg(names(
+            alloc,
+            "Only types of these names, and the types that they need",
+        ))?
         .arg(base(alloc, "FILE"))?
         .arg(kind(alloc))
 }
@@ -150,10 +190,6 @@ fn ext<'a>(alloc: Global) -> Result<Command<'a>, AllocError> {
 
 /// The command `check`.
 fn check<'a>(alloc: Global) -> Result<Command<'a>, AllocError> {
-    let target = Arg::new(alloc, "target")
-        .long("target")
-        .value_name("TABLE")
-        .help("Write also the relocations that this table, the kernel's, cannot satisfy");
     let command = Command::new(alloc, "check")
         .about(
             "Writes what the table needs of a kernel, and which types a rewrite for the kernel changes",
@@ -165,22 +201,17 @@ fn check<'a>(alloc: Global) -> Result<Command<'a>, AllocError> {
              1 where it has not or a relocation has an error, 3 where a relocation poisons its instruction.",
         )
         .arg(file(alloc, "file", "FILE", "The object or table"))?
-        .arg(target)?;
+        .arg(option(
+            alloc,
+            "target",
+            "TABLE",
+            "Write also the relocations that this table, the kernel's, cannot satisfy",
+        ))?;
     with_kernel(alloc, command)
 }
 
 /// The command `sanitize`.
 fn sanitize<'a>(alloc: Global) -> Result<Command<'a>, AllocError> {
-    let output = Arg::new(alloc, "output")
-        .short('o')
-        .long("output")
-        .value_name("OUT")
-        .required(true)
-        .help("The new file; - is standard output");
-    let table_only = Arg::new(alloc, "table-only")
-        .long("table-only")
-        .action(ArgAction::SetTrue)
-        .help("Write the rewritten table alone, which a loader gives to the kernel");
     let command = Command::new(alloc, "sanitize")
         .about("Rewrites the table for a kernel, as a loader does when it loads the object")
         .after_help(
@@ -188,68 +219,69 @@ fn sanitize<'a>(alloc: Global) -> Result<Command<'a>, AllocError> {
              btfobj sanitize prog.o -o prog.old.o --has Func,DataSec --fill-sized",
         )
         .arg(file(alloc, "file", "FILE", "The object or table"))?
-        .arg(output)?
-        .arg(table_only)?;
+        .arg(output(alloc, "The new file; - is standard output").required(true))?
+        .arg(flag(
+            alloc,
+            "table-only",
+            "Write the rewritten table alone, which a loader gives to the kernel",
+        ))?;
     with_kernel(alloc, command)
 }
 
-/// Adds the arguments that describe the kernel of a rewrite.
+/// Adds the arguments that describe a rewrite and its kernel.
 fn with_kernel<'a>(alloc: Global, command: Command<'a>) -> Result<Command<'a>, AllocError> {
-    let kernel = Arg::new(alloc, "kernel")
-        .long("kernel")
-        .value_name("VERSION")
-        .help(
-            "The features of this version of Linux, as 5.4 or what uname -r prints; from 4.18 on",
-        );
-    let has = Arg::new(alloc, "has")
-        .long("has")
-        .value_name("FEATURE")
-        .value_delimiter(',')
-        .value_parser(FEATURE_NAMES.as_slice())
-        .help("These features, with commas between them");
-    let fill_sized = Arg::new(alloc, "fill-sized")
-        .long("fill-sized")
-        .action(ArgAction::SetTrue)
-        .help(
+    with_features(alloc, command)?
+        .arg(flag(
+            alloc,
+            "fill-sized",
             "Give a DATASEC that has a size and no entries one, where the kernel takes none without",
-        );
-    let placeholder = Arg::new(alloc, "placeholder")
-        .long("placeholder")
-        .value_name("NAME")
-        .help("The variable that takes the place of functions in .ksyms; implies --no-finalize");
-    let no_finalize = Arg::new(alloc, "no-finalize")
-        .long("no-finalize")
-        .action(ArgAction::SetTrue)
-        .help(
+        ))?
+        .arg(option(
+            alloc,
+            "placeholder",
+            "NAME",
+            "The variable that takes the place of functions in .ksyms; implies --no-finalize",
+        ))?
+        .arg(flag(
+            alloc,
+            "no-finalize",
             "Rewrite the table as the compiler wrote it; else it first gets its offsets and sizes, as libbpf sets them",
-        );
-    let group = ArgGroup::new(alloc, "features")
-        .arg("kernel")?
-        .arg("has")?
-        .required(true);
+        ))
+}
+
+/// Adds the arguments for the features of a kernel, of which one has to be given.
+fn with_features<'a>(alloc: Global, command: Command<'a>) -> Result<Command<'a>, AllocError> {
     command
-        .arg(kernel)?
-        .arg(has)?
-        .arg(fill_sized)?
-        .arg(placeholder)?
-        .arg(no_finalize)?
-        .group(group)
+        .arg(option(
+            alloc,
+            "kernel",
+            "VERSION",
+            "The features of this version of Linux, as 5.4 or what uname -r prints; from 4.18 on",
+        ))?
+        .arg(features(alloc))?
+        .group(kernel_or_has(alloc)?)
+}
+
+/// The features by their names.
+fn features<'a>(alloc: Global) -> Arg<'a> {
+    option(
+        alloc,
+        "has",
+        "FEATURE",
+        "These features, with commas between them",
+    )
+    .value_delimiter(',')
+    .value_parser(FEATURE_NAMES.as_slice())
+}
+
+/// The arguments of which one has to be given.
+fn kernel_or_has<'a>(alloc: Global) -> Result<ArgGroup<'a>, AllocError> {
+    let group = ArgGroup::new(alloc, "features").arg("kernel")?;
+    Ok(group.arg("has")?.required(true))
 }
 
 /// The command `relocate`.
 fn relocate<'a>(alloc: Global) -> Result<Command<'a>, AllocError> {
-    let target = Arg::new(alloc, "target")
-        .long("target")
-        .value_name("TABLE")
-        .action(ArgAction::Append)
-        .help(
-            "The kernel's object or table, by default that of the running kernel; each further one is that of a module",
-        );
-    let output = Arg::new(alloc, "output")
-        .short('o')
-        .long("output")
-        .value_name("OUT")
-        .help("Write the relocated object to this file, and no list; - is standard output");
     let command = Command::new(alloc, "relocate")
         .about("Applies the CO-RE relocations of an object for a kernel, or lists what they do")
         .after_help(
@@ -260,9 +292,32 @@ fn relocate<'a>(alloc: Global) -> Result<Command<'a>, AllocError> {
              instruction is poisoned.",
         )
         .arg(file(alloc, "file", "FILE", "The program's object"))?
-        .arg(target)?
+        .arg(targets(alloc))?
         .arg(base(alloc, "TABLE"))?
-        .arg(output)?
+        .arg(output(
+            alloc,
+            "Write the relocated object to this file, and no list; - is standard output",
+        ))?;
+    with_relocation_flags(alloc, command)
+}
+
+/// The tables of a kernel and of its modules.
+fn targets<'a>(alloc: Global) -> Arg<'a> {
+    option(
+        alloc,
+        "target",
+        "TABLE",
+        "The kernel's object or table, by default that of the running kernel; each further one is that of a module",
+    )
+    .action(ArgAction::Append)
+}
+
+/// Adds the flags of `relocate`.
+fn with_relocation_flags<'a>(
+    alloc: Global,
+    command: Command<'a>,
+) -> Result<Command<'a>, AllocError> {
+    command
         .arg(flag(
             alloc,
             "fresh",
@@ -277,25 +332,12 @@ fn relocate<'a>(alloc: Global) -> Result<Command<'a>, AllocError> {
             alloc,
             "allow-poison",
             "Status 0 where an instruction is poisoned, as in dead code",
-        ))?;
-    command.arg(flag(alloc, "json", "Write the list as a JSON document"))
-}
-
-/// A flag, with the help for it.
-fn flag<'a>(alloc: Global, name: &'a str, help: &'a str) -> Arg<'a> {
-    Arg::new(alloc, name)
-        .long(name)
-        .action(ArgAction::SetTrue)
-        .help(help)
+        ))?
+        .arg(flag(alloc, "json", "Write the list as a JSON document"))
 }
 
 /// The command `compat`.
 fn compat<'a>(alloc: Global) -> Result<Command<'a>, AllocError> {
-    let names = Arg::new(alloc, "names")
-        .value_name("NAME")
-        .required(true)
-        .num_args(1..)
-        .help("The types");
     Command::new(alloc, "compat")
         .about(
             "Says whether types of these names are compatible in two tables, as a relocation of the first asks",
@@ -307,5 +349,5 @@ fn compat<'a>(alloc: Global) -> Result<Command<'a>, AllocError> {
         .arg(file(alloc, "local", "FILE", "The program's object or table"))?
         .arg(file(alloc, "target", "TARGET", "The kernel's object or table"))?
         .arg(base(alloc, "TARGET"))?
-        .arg(names)
+        .arg(names(alloc, "The types").required(true))
 }
