@@ -10,6 +10,7 @@ use btf_text::{
     write_header, write_layout,
 };
 use std::alloc::Global;
+use std::fmt;
 use std::io::Write;
 
 /// The kinds of types that have a name and no layout.
@@ -75,13 +76,25 @@ pub fn header<W: Write>(
     let table = InputFile::read(alloc, &bytes)?.whole_table_over(alloc, base)?;
     drop(bytes);
     let mut text = TextBuffer::new(out);
-    if names.is_empty() && kind.is_none() {
-        write_header(alloc, &table, &HeaderTypes::All, &mut text)?;
-    } else {
-        let type_ids = selected(&table, names, kind)?;
-        write_header(alloc, &table, &HeaderTypes::Needed(&type_ids), &mut text)?;
-    }
+    write_selected(alloc, &table, names, kind, &mut text)?;
     text.flush()?;
+    Ok(())
+}
+
+/// Writes the types of these names and this kind, and the types that they need; without names and a kind, all types.
+fn write_selected<W: fmt::Write>(
+    alloc: Global,
+    table: &Btf,
+    names: &[&str],
+    kind: Option<BtfKind>,
+    out: &mut W,
+) -> Result<(), Fault> {
+    if names.is_empty() && kind.is_none() {
+        write_header(alloc, table, &HeaderTypes::All, out)?;
+    } else {
+        let type_ids = selected(table, names, kind)?;
+        write_header(alloc, table, &HeaderTypes::Needed(&type_ids), out)?;
+    }
     Ok(())
 }
 
