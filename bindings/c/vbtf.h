@@ -765,8 +765,8 @@ VBTF_INLINE uint32_t vbtf_name(const struct vbtf_table *table, uint32_t offset, 
 
 /*
  * The memory of all names, for who reads many: the name at each string offset below `names->len` is at
- * `names->at + offset`, up to its zero byte, and no name is at another offset. The bytes stay until the table is changed
- * or closed.
+ * `names->at + offset`, up to its zero byte, and no name is at another offset. The bytes stay until the table is
+ * changed or closed.
  */
 VBTF_INLINE uint32_t vbtf_names(const struct vbtf_table *table, struct vbtf_name_bytes *names)
 {
@@ -1425,8 +1425,8 @@ VBTF_INLINE uint32_t vbtf_view_entries(const struct vbtf_view *view, uint32_t id
 
 /*
  * The members of all types from the id `first` on, type after type, in one call, and the number of the members of each
- * type in `counts`: 0 for a type that is no STRUCT or UNION. The call stops before the first type for which `counts` has
- * no place or whose members do not all fit. `done` gets the number of types, and `written` that of members.
+ * type in `counts`: 0 for a type that is no STRUCT or UNION. The call stops before the first type for which `counts`
+ * has no place or whose members do not all fit. `done` gets the number of types, and `written` that of members.
  */
 VBTF_INLINE uint32_t vbtf_view_members_from(const struct vbtf_view *view, uint32_t first, uint32_t *counts, size_t ids,
                                             struct vbtf_member *out, size_t room, uint64_t *done, uint64_t *written)

@@ -1,6 +1,7 @@
 /*
- * Gives tables to the running kernel by BPF_BTF_LOAD: kernel FILE.., where each file is a table. It writes the last lines
- * of the kernel's log for each table that the kernel refuses. Its status is 77 if the kernel permits no bpf(2) here.
+ * Gives tables to the running kernel by BPF_BTF_LOAD: kernel FILE.., where each file is a table. It writes the last
+ * lines of the kernel's log for each table that the kernel refuses. Its status is 77 if the kernel permits no bpf(2)
+ * here.
  */
 #include "table.h"
 

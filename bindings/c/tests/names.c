@@ -37,7 +37,7 @@ static void make_names(void)
 	}
 }
 
-/* The text that all names share, and a zero byte. The last `count` + 2 bytes are a string section with it at offset 1. */
+/* The text that all names share, and a zero byte. The last `count` + 2 bytes are a string section: the text is at 1. */
 static char shared[1 + 4 * MOST + 1];
 
 static void make_shared(void)

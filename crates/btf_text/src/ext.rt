@@ -51,12 +51,7 @@ pub fn write_ext<W: Write>(
     endianness: Endianness,
     out: &mut W,
 ) -> Result<(), TextError> {
-    let mut listed = Vec::new(alloc);
-    let parts = read_parts(data, endianness)?;
-    list_part(&mut listed, &parts.functions, endianness)?;
-    list_part(&mut listed, &parts.lines, endianness)?;
-    list_part(&mut listed, &parts.relocations, endianness)?;
-    listed.sort_by_key(|x: &Listed<'_>| (x.name_offset, x.topic))?;
+    let listed = list_all(alloc, data, endianness)?;
     let mut last = None;
     for section in listed.iter() {
         let name_offset = section.name_offset;
@@ -69,6 +64,21 @@ pub fn write_ext<W: Write>(
         write_section(table, section, endianness, out)?;
     }
     Ok(())
+}
+
+/// Lists the sections of the functions, lines and relocations of a `.BTF.ext`, by the offsets of their names.
+fn list_all(
+    alloc: Global,
+    data: &[u8],
+    endianness: Endianness,
+) -> Result<Vec<Listed<'_>>, TextError> {
+    let parts = read_parts(data, endianness)?;
+    let mut listed = Vec::new(alloc);
+    list_part(&mut listed, &parts.functions, endianness)?;
+    list_part(&mut listed, &parts.lines, endianness)?;
+    list_part(&mut listed, &parts.relocations, endianness)?;
+    listed.sort_by_key(|x: &Listed<'_>| (x.name_offset, x.topic))?;
+    Ok(listed)
 }
 
 /// Lists the sections of a part.

@@ -76,14 +76,26 @@ pub fn write_header<W: Write>(
         HeaderTypes::All => None,
         HeaderTypes::Needed(type_ids) => Some(Needed::of(alloc, table, type_ids)?),
     };
+    out.write_str(BEGINNING)?;
+    declare_all(alloc, table, order.as_slice(), needed.as_ref(), out)?;
+    out.write_str(END)?;
+    Ok(())
+}
+
+/// Declares the types of these ids that are needed, in this order.
+fn declare_all<W: Write>(
+    alloc: Global,
+    table: &Btf,
+    order: &[u32],
+    needed: Option<&Needed>,
+    out: &mut W,
+) -> Result<(), TextError> {
     let mut draft = Draft::new(alloc, table, out)?;
     let mut walk = Walk::new(alloc, table)?;
-    draft.out.write_str(BEGINNING)?;
-    for type_id in &order {
-        if needed.as_ref().is_none_or(|needed| needed.has(*type_id)) {
+    for type_id in order {
+        if needed.is_none_or(|needed| needed.has(*type_id)) {
             walk.declare(&mut draft, *type_id)?;
         }
     }
-    draft.out.write_str(END)?;
     Ok(())
 }

@@ -1,8 +1,8 @@
 -- The head of the record at a place.
-use Rattle.std.proofs.Common.{◌≡◌, ℕ, ◌+◌, ◌<◌, ◌≤◌, List, [], length, take, drop, Some, refl, sym, ap, subst, ◌∙◌, arith, inl, inr}
+use Rattle.std.proofs.Common.{◌≡◌, ◌⊎◌, ℕ, ◌+◌, ◌<◌, ◌≤◌, List, [], length, take, drop, Some, refl, sym, ap, subst, ◌∙◌, arith, inl, inr}
 use Rattle.std.proofs.lemmas.List.{length-drop, drop-drop}
 use Rattle.btf_model.specs.declared.endianness.Endianness.{Endianness}
-use Rattle.btf_model.specs.Record.{Kind, Unknown, Record, kind_of, vlen, tail_words, unknown}
+use Rattle.btf_model.specs.Record.{Kind, Struct, Union, Unknown, Record, kind_of, vlen, tail_words, unknown}
 use Rattle.btf_model.specs.Word.{word_of, words_at}
 use Rattle.btf_model.specs.Blob.{word_at}
 use Rattle.btf_model.specs.Spelling.{kept}
@@ -38,6 +38,11 @@ nothing_read r is = record { kind = Unknown; tail = []; has = refl; is = is }
 -- what reading retains of the head is the head of the record
 pub retained : (raw head : Head) (r : Record) → IsReadAs raw r → ((k : Kind) (tail : List ℕ) → kind_of raw.info ≡ Some k → HasHead head (kept k (headed raw tail))) → HasHead head r
 retained raw head r read retains = subst (HasHead head) (sym read.is) (retains read.kind read.tail read.has)
+
+-- reading retains the info word of a STRUCT or UNION
+pub read_info : (head : Head) (r : Record) (h : IsReadAs head r) → (h.kind ≡ Struct) ⊎ (h.kind ≡ Union) → head.info ≡ r.info
+read_info head r h (inl struct) = sym (ap (λ (x : Record). x.info) h.is ∙ ap (λ (k : Kind). (kept k (headed head h.tail)).info) struct)
+read_info head r h (inr union) = sym (ap (λ (x : Record). x.info) h.is ∙ ap (λ (k : Kind). (kept k (headed head h.tail)).info) union)
 
 -- the three words at a place
 pub head_in : (order : Endianness) (types : List ℕ) (place a b c : ℕ) → a ≡ word_at order place types → b ≡ word_at order (place + 4) types → c ≡ word_at order (place + 8) types → place + 12 ≤ length types → IsHead order (drop place types) (record { name = a; info = b; third = c }) (drop 4 (drop 4 (drop 4 (drop place types))))

@@ -1,6 +1,6 @@
 -- A kind of the code has one kind of the definitions.
-use Rattle.std.proofs.Common.{◌≡◌, ◌≢◌, ◌∙◌, ◌+◌, ℕ, zero, suc, List, [], ◌∷◌, Some, None, refl, sym, ap, arith, ◌⊎◌, inl, inr}
-use Rattle.std.specs.Prelude.{map, slice_get}
+use Rattle.std.proofs.Common.{◌≡◌, ◌≢◌, ◌∙◌, ◌+◌, ◌==◌, Bool, true, false, ℕ, zero, suc, List, [], ◌∷◌, Some, None, refl, sym, ap, arith, ◌⊎◌, inl, inr}
+use Rattle.std.specs.Prelude.{◌||◌, map, slice_get}
 use Rattle.std.proofs.lemmas.Option.{same_Some, slice_get_within, slice_get-map}
 use Rattle.std.specs.Option.{option_map}
 use Rattle.btf_model.specs.Record as model
@@ -178,6 +178,26 @@ head_kept model.Float head tail third u d s = record { name = refl; info = refl;
 head_kept model.DeclTag head tail third u d s = record { name = refl; info = refl; third = s (λ e. cc) (λ e. cc) }
 head_kept model.TypeTag head tail third u d s = record { name = refl; info = refl; third = s (λ e. cc) (λ e. cc) }
 head_kept model.Enum64 head tail third u d s = record { name = refl; info = refl; third = s (λ e. cc) (λ e. cc) }
+
+-- the kinds with members, and those without, by their numbers
+with_members : (k : Kind) → (number_of k == 4 || number_of k == 5) ≡ true → (k ≡ model.Struct) ⊎ (k ≡ model.Union)
+with_members model.Struct is = inl refl
+with_members model.Union is = inr refl
+with_members k is = absurd (let e = is in cc)
+
+without_members : (k : Kind) (r : Record) → (number_of k == 4 || number_of k == 5) ≡ false → members k r ≡ None
+without_members model.Struct r is = absurd (let e = is in cc)
+without_members model.Union r is = absurd (let e = is in cc)
+without_members k r is = refl
+
+by_number : (n : ℕ) (k : Kind) (b : Bool) → slice_get model.kinds n ≡ Some k → (n == 4 || n == 5) ≡ b → (number_of k == 4 || number_of k == 5) ≡ b
+by_number n k b has is = ap (λ (m : ℕ). m == 4 || m == 5) (let same : number_of k ≡ n = omega (arith, placed_kind n k has) in same) ∙ is
+
+pub members_by_number : (n : ℕ) (k : Kind) → slice_get model.kinds n ≡ Some k → (n == 4 || n == 5) ≡ true → (k ≡ model.Struct) ⊎ (k ≡ model.Union)
+members_by_number n k has is = with_members k (by_number n k true has is)
+
+pub no_members_by_number : (n : ℕ) (k : Kind) (r : Record) → slice_get model.kinds n ≡ Some k → (n == 4 || n == 5) ≡ false → members k r ≡ None
+no_members_by_number n k r has is = without_members k r (by_number n k false has is)
 
 -- the kinds without members, variants, parameters or entries
 pub no_members : (k : BtfKind) (r : Record) → k ≢ code.Struct → k ≢ code.Union → members (kind k) r ≡ None

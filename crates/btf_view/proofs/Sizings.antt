@@ -13,7 +13,7 @@ use Rattle.btf_view.specs.declared.sizing.TheConstants.{SIZINGS}
 use Rattle.btf_view.proofs.KindNames.{kept_extent, kept_kind, number_of, one_number, placed_kind}
 
 -- the kind of a record is that of the head that is read
-kind_read : (head : Head) (r : Record) (h : IsReadAs head r) → kind_of r.info ≡ Some h.kind
+pub kind_read : (head : Head) (r : Record) (h : IsReadAs head r) → kind_of r.info ≡ Some h.kind
 kind_read head r h = ap (λ (x : Record). kind_of x.info) h.is ∙ kept_kind h.kind (headed head h.tail) h.has
 
 -- and so is what it gives for its size

@@ -1,6 +1,6 @@
 //! Writing many types or items to a buffer.
 
-ghost use Rattle.std.specs.Prelude.{◌≡◌, ◌*◌, ◌+◌, ◌<◌, ◌≤◌, ◌^◌, IfSome, List, map, length, take, drop};
+ghost use Rattle.std.specs.Prelude.{◌≡◌, ◌==◌, ◌||◌, ◌*◌, ◌+◌, ◌<◌, ◌≤◌, ◌^◌, IfSome, List, map, length, take, drop};
 ghost use Rattle.btf_model.specs.Record.{Record, vlen};
 ghost use Rattle.btf_model.specs.Word.{words_at};
 ghost use Rattle.btf_view.specs.Forms.{Begins, HasAppended, ListsTypes, words_in};
@@ -9,7 +9,7 @@ ghost use Rattle.btf_view.specs.Places.{ArePlaces, ForRecords, IsRecordAt};
 
 use crate::forms::{Member, TypeWords, type_words};
 use crate::items::Listed;
-use crate::record::{head_at, most_head_at, tail_at, word_at, word_pair_at};
+use crate::record::{head_at, most_head_at, raw_head_at, tail_at, word_at, word_pair_at};
 use btf_plain::{BtfKind, BtfMember, Endianness};
 
 /// Writes the first words of the type at a place. Most types take the short way.
@@ -139,6 +139,15 @@ fn append_items(
     Some(fill_items::<BtfMember>(info, tail, endianness, &mut out[at..]))
 }
 
+/// Whether records of the kind with this number have members. A loop over types tests each number, which takes fewer
+/// instructions than to find the kind first.
+#[inline(always)]
+fn has_members(kind: u32) -> bool
+    ensures { result ≡ (kind == 4 || kind == 5) }
+{
+    kind == BtfKind::Struct as u32 || kind == BtfKind::Union as u32
+}
+
 /// Writes the members of the record at a place from an index of a buffer on, and returns their number; None if they do
 /// not all fit. A record that is no STRUCT or UNION has none.
 #[inline(always)]
@@ -154,17 +163,12 @@ fn append_members(
         → HasAppended (members_or_none r) out.old out.new at result }
     ensures few { IfSome result (λ count. (at + count ≤ length out.old) × (count < 2 ^ 16)) }
 {
-    let head = head_at(types, place, endianness);
-    let Ok(kind) = BtfKind::try_from(head.kind()) else {
+    let head = raw_head_at(types, place, endianness);
+    if !has_members(head.kind()) {
         return Some(0);
-    };
-    match kind {
-        BtfKind::Struct | BtfKind::Union => {
-            let tail = tail_at(types, place, endianness);
-            append_items(head.info, tail, endianness, out, at)
-        }
-        _ => Some(0),
     }
+    let tail = tail_at(types, place, endianness);
+    append_items(head.info, tail, endianness, out, at)
 }
 
 /// Writes the members of the records at these places, record after record, and the number of the members of each

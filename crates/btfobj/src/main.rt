@@ -14,8 +14,8 @@ use std::alloc::{AllocError, Global};
 use std::process::ExitCode;
 use std::{env, io};
 
-/// The size of the largest piece of memory that is taken from the heap of the allocator. glibc takes a larger piece from
-/// the system, which clears each page at its first use, until one of this size was freed (mallopt(3)).
+/// The size of the largest piece of memory that is taken from the heap of the allocator. glibc takes a larger piece
+/// from the system, which clears each page at its first use, until one of this size was freed (mallopt(3)).
 const LARGEST_PIECE: usize = 1 << 24;
 
 /// Lets the allocator use freed memory again for large pieces. A failure changes nothing but the speed.

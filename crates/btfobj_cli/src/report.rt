@@ -63,8 +63,8 @@ fn above<'a>(base: Option<&Btf>, selection: &Selection<'a>) -> Selection<'a> {
 
 /// Writes types of a file's table as a C header, as `write_header` does: the types of these names and this kind, and
 /// the types that they need; without names and a kind, all types. With a base, its types come first. The table is
-/// parsed before anything is written, and then the bytes of the file are freed. The error is `NoType` if no type has one
-/// of the names, and the kind.
+/// parsed before anything is written, and then the bytes of the file are freed. The error is `NoType` if no type has
+/// one of the names, and the kind.
 pub fn header<W: Write>(
     alloc: Global,
     bytes: Vec<u8>,

@@ -1,7 +1,7 @@
-//! The alignment of each type of small tables, 0 for an error, and then the errors. A line of the input is `NAME BYTES`,
-//! with the bytes of a little-endian table in hexadecimal digits. The expected alignments are those of libbpf 1.1.2's
-//! `btf__align_of`, and in the first table, which clang wrote, those of the compiler's `_Alignof`. A script that only
-//! knows the rule wrote the errors and the tables for which libbpf does not return.
+//! The alignment of each type of small tables, 0 for an error, and then the errors. A line of the input is
+//! `NAME BYTES`, with the bytes of a little-endian table in hexadecimal digits. The expected alignments are those of
+//! libbpf 1.1.2's `btf__align_of`, and in the first table, which clang wrote, those of the compiler's `_Alignof`. A
+//! script that only knows the rule wrote the errors and the tables for which libbpf does not return.
 
 mod deep;
 

@@ -1,6 +1,6 @@
-//! The order of the declarations of small tables, or the error. A line of the input is `NAME BYTES`, with the bytes of a
-//! little-endian table in hexadecimal digits. A script that only knows the rule, as a plain recursion, wrote the expected
-//! orders. The first two tables are from clang, and their orders give the definitions of the text of
+//! The order of the declarations of small tables, or the error. A line of the input is `NAME BYTES`, with the bytes of
+//! a little-endian table in hexadecimal digits. A script that only knows the rule, as a plain recursion, wrote the
+//! expected orders. The first two tables are from clang, and their orders give the definitions of the text of
 //! `bpftool btf dump file FILE format c`.
 
 mod deep;

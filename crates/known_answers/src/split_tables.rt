@@ -1,6 +1,6 @@
 //! Reads small split tables over their bases, and writes what becomes of each. A line of the input is
-//! `NAME ORDER BASE ORDER SPLIT`, with the bytes of both blobs in hexadecimal digits. The expected names, ids and errors
-//! were worked out by hand, and the bytes by a script that only knows the format.
+//! `NAME ORDER BASE ORDER SPLIT`, with the bytes of both blobs in hexadecimal digits. The expected names, ids and
+//! errors were worked out by hand, and the bytes by a script that only knows the format.
 
 use crate::word::{bytes_of, table_of};
 use btf_plain::{BtfError, Endianness};

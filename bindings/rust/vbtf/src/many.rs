@@ -43,7 +43,8 @@ impl Table {
     /// # Ok::<(), vbtf::Error>(())
     /// ```
     pub fn bytes_at(&self, offset: u32) -> Result<&[u8], Error> {
-        // SAFETY: the loan lives as long as the call. The bytes are the table's, which is borrowed as long as the slice.
+        // SAFETY: the loan lives as long as the call. The bytes are the table's, which is borrowed as long as the
+        // slice.
         unsafe {
             let mut len = 0;
             let name: vbtf_name_bytes = called(|name, error| {
@@ -64,8 +65,8 @@ impl Table {
     /// ```
     pub fn names(&self) -> &[u8] {
         let mut names = vbtf_name_bytes { at: ptr::null(), len: 0 };
-        // SAFETY: the loan lives as long as the call. The bytes are the table's, which is borrowed as long as the slice.
-        // A handle that is open gets no null pointer.
+        // SAFETY: the loan lives as long as the call. The bytes are the table's, which is borrowed as long as the
+        // slice. A handle that is open gets no null pointer.
         unsafe {
             vbtf_lent_names(&mut self.loan(), &mut names);
             slice::from_raw_parts(names.at, names.len)

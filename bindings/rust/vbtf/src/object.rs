@@ -8,8 +8,8 @@ use vbtf_sys::{vbtf_lent_relocate_object, vbtf_tally};
 /// How [`Table::relocate_object`] relocates. The default is what libbpf does.
 #[derive(Debug, Clone, Copy, PartialEq, Eq, Default)]
 pub struct Relocate {
-    /// Each record has all candidates, as in the kernel; otherwise the records of one type share theirs, and each record
-    /// with a match removes the types that do not match.
+    /// Each record has all candidates, as in the kernel; otherwise the records of one type share theirs, and each
+    /// record with a match removes the types that do not match.
     pub fresh_candidates: bool,
     /// A record with an error changes nothing; otherwise it is [`Error::RelocationRefused`].
     pub keep_refused: bool,
@@ -27,9 +27,9 @@ pub struct Tally {
 }
 
 impl Table {
-    /// The ELF object with its code relocated for this table (CO-RE): each relocation in `.BTF.ext` is resolved, and the
-    /// value for this table is patched into its instruction. The new object is as long as the old one. An object without
-    /// `.BTF.ext` is not changed.
+    /// The ELF object with its code relocated for this table (CO-RE): each relocation in `.BTF.ext` is resolved, and
+    /// the value for this table is patched into its instruction. The new object is as long as the old one. An object
+    /// without `.BTF.ext` is not changed.
     ///
     /// ```no_run
     /// let kernel = vbtf::Table::parse_by_magic(&std::fs::read("/sys/kernel/btf/vmlinux")?)?;

@@ -122,8 +122,8 @@ fn write_member<'a, W: Write>(
     Ok(true)
 }
 
-/// Writes the declaration of a member that has tasks. The end of the member, which is a bit-field of this number of bits
-/// or none, and the further members come after them.
+/// Writes the declaration of a member that has tasks. The end of the member, which is a bit-field of this number of
+/// bits or none, and the further members come after them.
 fn write_with_tasks<'a, W: Write>(
     draft: &mut Draft<'a, W>,
     next: &Members<'a>,
@@ -162,8 +162,8 @@ fn gap_before<W: Write>(draft: &Draft<'_, W>, state: &Members<'_>, member: &BtfM
     }
 }
 
-/// Begins the line of a member, goes on to the members after it, and returns the number of bits of a bit-field, which is
-/// 0 for another member.
+/// Begins the line of a member, goes on to the members after it, and returns the number of bits of a bit-field, which
+/// is 0 for another member.
 fn begin_member<W: Write>(
     draft: &mut Draft<'_, W>,
     state: &mut Members<'_>,

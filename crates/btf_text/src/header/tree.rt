@@ -1,8 +1,9 @@
-//! Items in an order, which a hash finds: one balanced tree for each value of the hash's last bits. A tree is an AA tree
-//! (A. Andersson, "Balanced search trees made simple", 1993).
+//! Items in an order, which a hash finds: one balanced tree for each value of the hash's last bits. A tree is an AA
+//! tree (A. Andersson, "Balanced search trees made simple", 1993).
 //!
-//! The caller compares, because a comparison may fail: it goes down from a root by `begin`, `here` and `go`, and `insert`
-//! adds an item where this way ends. So n items take n log n comparisons and moves, even if all hashes are equal.
+//! The caller compares, because a comparison may fail: it goes down from a root by `begin`, `here` and `go`, and
+//! `insert` adds an item where this way ends. So n items take n log n comparisons and moves, even if all hashes are
+//! equal.
 
 use std::alloc::{AllocError, Global};
 
