@@ -4,7 +4,7 @@ NAME ?=
 FILE ?= $(firstword $(wildcard /sys/kernel/btf/vmlinux) crates/btf_examples/data/kernel.btf)
 PREFIX ?= $(HOME)/.local
 
-.PHONY: try list build objects test check mutants bench install
+.PHONY: try list build objects quick test check mutants bench install
 
 # Lists the types of a small table by btftool as it is compiled without proofs, which takes a minute.
 try:
@@ -21,6 +21,10 @@ build:
 # Proves and builds btfobj where it is older than its sources.
 objects:
 	./btfobj --version
+
+# Tries rows and other tools over programs that are compiled without proofs: some minutes, and it proves nothing.
+quick:
+	scripts/quick
 
 # Proves and tests everything: the merge gate.
 test:

@@ -10,7 +10,9 @@ import glob
 import os
 import re
 import textwrap
-from typing import Iterator, NamedTuple
+from typing import Dict, Iterator, NamedTuple, Tuple
+
+from repository import after
 
 HEAD = re.compile(r"^(\s*)(?:pub(?:\([a-z]+\))? )?(?:const )?(?:extern \"C\" )?fn (\w+)", re.M)
 IMPL = re.compile(r"^impl\b(.*?)\{?$", re.M)
@@ -29,7 +31,7 @@ NOTED = re.compile(r"^note: (?:\./)?(\S+?):(\d+):\d+: it is not proved .*?\(`([^
 SEARCHED = re.compile(r"`search` did not prove ((?:`[^`]*`(?:, )?)+)")
 
 # Changed lines: the new text of each, by its file and number.
-Lines = dict[tuple[str, int], str]
+Lines = Dict[Tuple[str, int], str]
 
 
 class Change(NamedTuple):
@@ -118,9 +120,9 @@ def owner_of(text: str) -> tuple[str, str]:
 def functions_of(crate: str) -> list[Function]:
     """Returns the functions of a crate, each with the lines from its head to the next head."""
     found = []
-    for file in sorted(glob.glob("src/**/*.rt", recursive=True, root_dir=f"crates/{crate}")):
-        text = text_of(f"crates/{crate}/{file}")
-        parts = file.removeprefix("src/").removesuffix(".rt").split("/")
+    for path in sorted(glob.glob(f"crates/{crate}/src/**/*.rt", recursive=True)):
+        text, file = text_of(path), os.path.relpath(path, f"crates/{crate}")
+        parts = file[len("src/") : -len(".rt")].split("/")
         module = (crate, *[it for it in parts if it not in ("lib", "main")])
         heads = [*HEAD.finditer(text)]
         for head, end in zip(heads, [*[it.start() for it in heads[1:]], len(text)]):
@@ -137,6 +139,11 @@ def text_of(path: str) -> str:
         return file.read()
 
 
+def has_one_mutant(path: str) -> bool:
+    """Returns whether a file holds one mutant, and not several of one struct."""
+    return not path.endswith("_words_mistaken.edit")
+
+
 def changes_of(path: str) -> Iterator[Change]:
     """Returns the changes of a file of mutants, in order."""
     file = old = ""
@@ -145,9 +152,9 @@ def changes_of(path: str) -> Iterator[Change]:
         if word == "file":
             file = rest.strip()
         elif word == "old":
-            old, at = rest.removeprefix(" "), number
+            old, at = after(" ", rest), number
         elif word == "new":
-            yield Change(file, old, rest.removeprefix(" "), at)
+            yield Change(file, old, after(" ", rest), at)
 
 
 def parts_of(changes: list[Change]) -> Iterator[list[Change]]:
@@ -193,8 +200,8 @@ def mutants_of(crate: str, paths: list[str]) -> Iterator[Mutant]:
     """Returns the mutants of these files of a crate."""
     every = functions_of(crate)
     for path in paths:
-        name, changes = os.path.basename(path).removesuffix(".edit"), [*changes_of(path)]
-        parts = [*parts_of(changes)] if name.endswith("_words_mistaken") else [changes]
+        name, changes = os.path.basename(path)[: -len(".edit")], [*changes_of(path)]
+        parts = [changes] if has_one_mutant(path) else [*parts_of(changes)]
         for number, part in enumerate(parts, 1):
             label = f"{name}.{number}" if len(parts) > 1 else name
             lines = lines_changed(crate, part)
@@ -287,14 +294,24 @@ def verdict(said: str, mutant: Mutant, names: list[str]) -> Verdict:
     own = [name for it in mutant.functions for name in it.names_in(names)]
     goals: dict[str, list[str]] = {}
     for function in mutant.functions:
-        goals |= own_goals(said, function, names)
+        goals.update(own_goals(said, function, names))
     if not mutant.functions:
         for path, goal, text in errors_in(said):
             if goal and not NAMED.search(text):
                 goals.setdefault(path, []).append(goal)
         every = {name: goals_of(said, name) for name in re.findall(r"^fn (\S+): ", said, re.M)}
-        goals |= {name: of for name, of in every.items() if of}
+        goals.update({name: of for name, of in every.items() if of})
     return Verdict(KILLED, "", goals) if goals else Verdict(WRONG, why_not(said, own))
+
+
+def agrees(how: str, said: str) -> bool:
+    """Returns whether a verdict agrees with what `rt must-fail` says of the mutant. It may refuse what is killed for
+    the wrong reason, because it does not look at which function has the goal that is not proved."""
+    is_refused = said.startswith("refused, as it must be")
+    is_refused_well = is_refused and not said.startswith("refused, as it must be (only because")
+    is_bad = said.startswith("BAD EDIT")
+    expected = {KILLED: is_refused_well, SURVIVED: said.startswith("NOT REFUSED")}
+    return expected.get(how, is_bad or is_refused and how == WRONG)
 
 
 def notes_of(goals: dict[str, list[str]]) -> Iterator[str]:
@@ -302,7 +319,7 @@ def notes_of(goals: dict[str, list[str]]) -> Iterator[str]:
     for name, of_name in sorted(goals.items()):
         begun = f"# refused at: {name.partition('::')[2] or name}: "
         wrapped = textwrap.wrap(", ".join(of_name), 120 - len(begun), break_long_words=False, break_on_hyphens=False)
-        yield from [begun + line.removesuffix(",") for line in wrapped]
+        yield from [begun + (line[:-1] if line.endswith(",") else line) for line in wrapped]
 
 
 def write_notes(path: str, goals_at: dict[int, dict[str, list[str]]]) -> None:

@@ -6,10 +6,21 @@ import os
 import subprocess
 
 
+def after(begin: str, text: str) -> str:
+    """Returns a text without what it may begin with."""
+    return text[len(begin) :] if text.startswith(begin) else text
+
+
 def kit() -> str:
     """Returns the folder of the toolchain."""
     page = subprocess.run(["rt", "doc"], stdout=subprocess.PIPE, text=True, check=True).stdout
     return os.path.dirname(page.strip())
+
+
+def run_tool(name: str, *words: str, folder: str = ".") -> None:
+    """Runs a tool of LLVM in a folder, and returns nothing; raises an error if the tool fails. The toolchain's clang is
+    each of these tools, by the name that it is run under, and most of them are no file of their own."""
+    subprocess.run([name, *words], executable=f"{kit()}/toolchain/bin/clang", cwd=folder, check=True)
 
 
 def crates() -> list[tuple[list[str], list[str]]]:

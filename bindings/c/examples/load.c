@@ -1,6 +1,6 @@
 /*
- * Loads a program into the running kernel, and runs it once: load OBJECT, where OBJECT is what clang made of a socket
- * filter without maps, as filter.c.
+ * Loads a program into the running kernel, and runs it once: load OBJECT [TABLE], where OBJECT is what clang made of a
+ * socket filter without maps, as filter.c. It is relocated for the types of TABLE, or else for those of the kernel.
  *
  * The steps are those of a loader: the code is relocated for the types of the kernel, the program's table is rewritten
  * for the features that the kernel is found to have, and the table, the code and the records of its functions are given
@@ -147,7 +147,7 @@ static int called(int command, union bpf_attr *attr, const char *what)
 {
 	log_text[0] = 0;
 	int answer = (int)syscall(SYS_bpf, command, attr, sizeof *attr);
-	if (answer < 0 && (errno == EPERM || errno == ENOSYS)) {
+	if (answer < 0 && (errno == EPERM || errno == EACCES || errno == ENOSYS)) {
 		printf("bpf(2) is not permitted here\n");
 		exit(0);
 	}
@@ -241,13 +241,14 @@ int main(int argc, char **argv)
 {
 	struct loader it = { .table_fd = -1, .program_fd = -1 };
 	struct file types = { NULL, 0 };
-	if (argc != 2) {
-		fprintf(stderr, "usage: load OBJECT\n");
+	if (argc != 2 && argc != 3) {
+		fprintf(stderr, "usage: load OBJECT [TABLE]\n");
 		return 2;
 	}
 	bool is_run = getrandom(&it.seed, sizeof it.seed, 0) == sizeof it.seed && read_file(argv[1], &it.object)
-	              && read_file(KERNEL, &types) && open_table(&it.kernel, types.bytes, types.len) && relocate(&it)
-	              && sanitize(&it) && print_code(&it) && load_table(&it) && load_program(&it) && run(&it);
+	              && read_file(argc == 3 ? argv[2] : KERNEL, &types)
+	              && open_table(&it.kernel, types.bytes, types.len) && relocate(&it) && sanitize(&it) && print_code(&it)
+	              && load_table(&it) && load_program(&it) && run(&it);
 	vbtf_close(&it.program);
 	vbtf_close(&it.kernel);
 	free(types.bytes);

@@ -1,7 +1,7 @@
 /*
  * Gives tables to the running kernel by BPF_BTF_LOAD: kernel FILE.., where each file is a table. It writes the last
- * lines of the kernel's log for each table that the kernel refuses. Its status is 77 if the kernel permits no bpf(2)
- * here.
+ * lines of the kernel's log for each table that the kernel refuses. Its status is 77 if the kernel does not even take a
+ * table of one integer here, and the last line then says why.
  */
 #include "table.h"
 
@@ -29,18 +29,30 @@ static int loaded(size_t len)
 	return (int)syscall(SYS_bpf, BPF_BTF_LOAD, &attr, sizeof attr);
 }
 
+/* Whether the kernel takes a table of one INT of 4 bytes, without a call of the library. */
+static bool takes_tables(void)
+{
+	static const uint32_t words[] = { 0x0001eb9f, 24, 0, 16, 16, 5, 1, 0x01000000, 4, 0x01000020 };
+	memcpy(table, words, sizeof words);
+	memcpy(table + sizeof words, "\0int", 5);
+	int descriptor = loaded(sizeof words + 5);
+	if (descriptor >= 0)
+		close(descriptor);
+	return descriptor >= 0;
+}
+
 int main(int argc, char **argv)
 {
+	if (!takes_tables()) {
+		printf("bpf(2) takes no table here: %s\n", strerror(errno));
+		return NOT_PERMITTED;
+	}
 	for (int i = 1; i < argc; i++) {
 		FILE *file = fopen(argv[i], "rb");
 		size_t len = file ? fread(table, 1, sizeof table, file) : 0;
 		if (file)
 			fclose(file);
 		int descriptor = loaded(len);
-		if (descriptor < 0 && (errno == EPERM || errno == ENOSYS)) {
-			printf("kernel: bpf(2) is not permitted here\n");
-			return NOT_PERMITTED;
-		}
 		if (descriptor < 0) {
 			size_t end = strlen(log_text);
 			fprintf(stderr, "%s: %s\n%s", argv[i], strerror(errno), log_text + (end > 200 ? end - 200 : 0));

@@ -1,13 +1,13 @@
 //! The works that are timed.
 
-use crate::timing::Timing;
 use btf::{
-    Btf, BtfError, BtfFeatureResolver, BtfKind, Endianness, FillPolicy, rewrite_bytes_with,
-    types_are_compatible,
+    Btf, BtfError, BtfExt, BtfFeatureResolver, BtfKind, Endianness, FillPolicy, SectionIndex,
+    rewrite_bytes_with, types_are_compatible,
 };
-use btf_samples::layout::Layout;
 use std::alloc::Global;
 use std::collections::HashMap;
+use std::fs;
+use std::hash::RandomState;
 use std::test::Fail;
 use std::time::Instant;
 
@@ -37,6 +37,20 @@ pub struct Bench<'a> {
     func: String,
 }
 
+/// The two numbers of `N,N`; 0 where there is none.
+fn numbers(text: &str) -> (u32, u32) {
+    let (first, second) = text.split_once(',').unwrap_or((text, ""));
+    (first.parse().unwrap_or(0), second.parse().unwrap_or(0))
+}
+
+/// The length of the text at a string offset. An error counts as 1.
+fn text_len(btf: &Btf, offset: u32) -> u64 {
+    match btf.string_at(offset) {
+        Ok(text) => text.as_str().len() as u64,
+        Err(_) => 1,
+    }
+}
+
 /// The nanoseconds since a time.
 pub fn since(rt: &HostRuntime, start: Instant) -> Result<u64, Fail> {
     Ok(u64::try_from(start.elapsed(rt)?.as_nanos())?)
@@ -61,9 +75,26 @@ fn name_of(alloc: Global, btf: &Btf, id: u32) -> Result<String, BtfError> {
     Ok(name.unwrap_or(String::new(alloc)))
 }
 
+/// The sections and the symbols of a program.
+type Layout = (HashMap<String, (SectionIndex, u64)>, HashMap<String, u64>);
+
+/// A section of 16 bytes and a symbol at 8 of the name at a string offset; none at 0.
+fn layout(alloc: Global, btf: &Btf, offset: u32) -> Result<Layout, Fail> {
+    let mut layout = (HashMap::new(alloc), HashMap::new(alloc));
+    if offset > 0 {
+        let name = btf.string_at(offset)?;
+        layout.0.insert(
+            String::from_str(alloc, name.as_str())?,
+            (SectionIndex(0), 16),
+        )?;
+        layout.1.insert(String::from_str(alloc, name.as_str())?, 8)?;
+    }
+    Ok(layout)
+}
+
 /// Rewrites a table for a kernel that has all features, or none.
-pub fn rewrite(btf: &mut Btf, layout: &Layout, granted: bool) -> Result<(), BtfError> {
-    let Layout { sections, symbols } = layout;
+fn rewrite(btf: &mut Btf, layout: &Layout, granted: bool) -> Result<(), BtfError> {
+    let (sections, symbols) = layout;
     let mut resolver = BtfFeatureResolver::new(|_| granted);
     let policy = FillPolicy::KeepSized;
     btf.fixup_and_sanitize_with(sections, symbols, None, policy, &mut resolver)?;
@@ -90,23 +121,21 @@ impl<'a> Bench<'a> {
         self.btf.types().len() as u64
     }
 
-    /// The times of this number of runs of a work.
-    pub fn timing(&self, rt: &HostRuntime, name: &str, reps: usize) -> Result<Timing, Fail> {
-        let mut timing = Timing::new(rt.alloc());
-        for _ in 0..reps {
-            timing.add(self.nanoseconds(rt, name)?)?;
-        }
-        Ok(timing)
-    }
-
     /// The nanoseconds that one run of a work takes.
-    fn nanoseconds(&self, rt: &HostRuntime, name: &str) -> Result<u64, Fail> {
-        match name {
+    pub fn nanoseconds(&self, rt: &HostRuntime, name: &str) -> Result<u64, Fail> {
+        let (work, given) = name.split_once('=').unwrap_or((name, ""));
+        let (first, second) = numbers(given);
+        match work {
+            "compare" => self.compare_pair(rt, first, second),
+            "rewrite" => self.rewrite(rt, true, first),
+            "text" => self.read_texts(rt, first, second),
+            "ext" => self.parse_ext(rt, given),
+            "keyed_ext" => self.parse_keyed_ext(rt, given),
             "parse" => self.parse(rt),
             "to_bytes" => self.to_bytes(rt),
             "clone" => self.clone_table(rt),
-            "rewrite_none" => self.rewrite(rt, false),
-            "rewrite_all" => self.rewrite(rt, true),
+            "rewrite_none" => self.rewrite(rt, false, 0),
+            "rewrite_all" => self.rewrite(rt, true, 0),
             "bytes_none" => self.rewrite_bytes(rt),
             "compat_self" => self.compare(rt, 0),
             "compat_next" => self.compare(rt, 1),
@@ -139,9 +168,10 @@ impl<'a> Bench<'a> {
         took
     }
 
-    fn rewrite(&self, rt: &HostRuntime, granted: bool) -> Result<u64, Fail> {
+    /// A rewrite with a section and a symbol of the name at a string offset; with none at 0.
+    fn rewrite(&self, rt: &HostRuntime, granted: bool, offset: u32) -> Result<u64, Fail> {
+        let layout = layout(self.alloc, self.btf, offset)?;
         let mut table = self.btf.try_clone()?;
-        let layout = Layout::new(self.alloc);
         let start = Instant::now(rt)?;
         // A table with unknown sections is an error, and its time is measured too.
         let rewritten = rewrite(&mut table, &layout, granted);
@@ -192,6 +222,45 @@ impl<'a> Bench<'a> {
         let took = since(rt, start)?;
         // What was found is used, so that the loop is not left out.
         Ok(if count == u32::MAX { 0 } else { took })
+    }
+
+    fn compare_pair(&self, rt: &HostRuntime, id: u32, other: u32) -> Result<u64, Fail> {
+        let start = Instant::now(rt)?;
+        let found = types_are_compatible(self.btf, id, self.btf, other);
+        let took = since(rt, start);
+        drop(found);
+        took
+    }
+
+    /// Reads the text at a string offset this number of times.
+    fn read_texts(&self, rt: &HostRuntime, offset: u32, count: u32) -> Result<u64, Fail> {
+        let start = Instant::now(rt)?;
+        let mut all = 0u64;
+        for _ in 0..count {
+            all = all.wrapping_add(text_len(self.btf, offset));
+        }
+        let took = since(rt, start)?;
+        // What was found is used, so that the loop is not left out.
+        Ok(if all == u64::MAX { 0 } else { took })
+    }
+
+    fn parse_ext(&self, rt: &HostRuntime, file: &str) -> Result<u64, Fail> {
+        let bytes = fs::read(rt, file)?;
+        let start = Instant::now(rt)?;
+        let ext = BtfExt::parse(&bytes, Endianness::Little, self.btf)?;
+        let took = since(rt, start);
+        drop(ext);
+        took
+    }
+
+    fn parse_keyed_ext(&self, rt: &HostRuntime, file: &str) -> Result<u64, Fail> {
+        let bytes = fs::read(rt, file)?;
+        let keys = RandomState::new(rt)?;
+        let start = Instant::now(rt)?;
+        let ext = BtfExt::parse_with_hasher(&bytes, Endianness::Little, self.btf, keys)?;
+        let took = since(rt, start);
+        drop(ext);
+        took
     }
 
     fn look_up(&self, rt: &HostRuntime) -> Result<u64, Fail> {

@@ -1,6 +1,6 @@
 -- Worked examples of sections, computed. Tables, code and outcomes are the rows `pruned`, `not_yet_pruned` and
--- `missing_type` of `crates/relocate_rows`, where libbpf has these outcomes; libbpf shares candidates. The program was
--- compiled against `struct s { int a; int b; }`; the target has `struct s { int a; }`, of 8 bytes, and
+-- `missing_type` of `tests/rows/relocations.rows`, where libbpf has these outcomes; libbpf shares candidates. The
+-- program was compiled against `struct s { int a; int b; }`; the target has `struct s { int a; }`, of 8 bytes, and
 -- `struct s___2 { int b; int a; }`.
 use Rattle.std.specs.Prelude.{◌≡◌, ℕ, ◌+◌, ◌*◌, ◌^◌, true, false, List, [], ◌∷◌, ◌++◌, codes, Ok, Err, refl}
 use Rattle.btf_model.specs.Record.{Record, unknown}

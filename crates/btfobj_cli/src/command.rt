@@ -1,4 +1,5 @@
-//! The commands and arguments of `btfobj`, and the help for them.
+//! The commands and arguments of `btfobj`, and the help for them: rows, of which loops make the command line. A loop
+//! costs its proof the same for any number of rows.
 
 use btf_rewrite_model::FEATURE_NAMES;
 use clap::{Arg, ArgAction, ArgGroup, Command};
@@ -30,9 +31,397 @@ static KINDS: [&str; 19] = [
     "ENUM64",
 ];
 
+/// How an argument is given.
+enum Form {
+    /// By its place.
+    File,
+    /// By its place, one or more of them.
+    Names,
+    /// `--NAME VALUE`.
+    Value,
+    /// `--NAME VALUE`, any number of times.
+    Values,
+    /// `--NAME`.
+    Flag,
+    /// `-o OUT`.
+    Output,
+    /// One of `KINDS`.
+    Kind,
+    /// Features by their names, with commas between them.
+    Features,
+}
+
+/// An argument.
+struct Argument {
+    /// The commands that take it.
+    of: &'static [&'static str],
+    name: &'static str,
+    form: Form,
+    /// What its value is called in the help.
+    value: &'static str,
+    is_required: bool,
+    help: &'static str,
+}
+
+/// A command.
+struct Description {
+    name: &'static str,
+    about: &'static str,
+    after_help: &'static str,
+    /// Whether `--kernel` or `--has` has to be given.
+    is_for_kernel: bool,
+}
+
+/// The arguments: the help of a command has them in this order.
+static ARGUMENTS: [Argument; 28] = [
+    Argument {
+        of: &["dump", "header", "layout", "check", "sanitize"],
+        name: "file",
+        form: Form::File,
+        value: "FILE",
+        is_required: true,
+        help: "The object or table",
+    },
+    Argument {
+        of: &["ext"],
+        name: "file",
+        form: Form::File,
+        value: "FILE",
+        is_required: true,
+        help: "The object",
+    },
+    Argument {
+        of: &["relocate"],
+        name: "file",
+        form: Form::File,
+        value: "FILE",
+        is_required: true,
+        help: "The program's object",
+    },
+    Argument {
+        of: &["layout"],
+        name: "name",
+        form: Form::File,
+        value: "NAME",
+        is_required: true,
+        help: "The structure, the union, or the typedef of one",
+    },
+    Argument {
+        of: &["compat"],
+        name: "local",
+        form: Form::File,
+        value: "FILE",
+        is_required: true,
+        help: "The program's object or table",
+    },
+    Argument {
+        of: &["compat"],
+        name: "target",
+        form: Form::File,
+        value: "TARGET",
+        is_required: true,
+        help: "The kernel's object or table",
+    },
+    Argument {
+        of: &["header"],
+        name: "names",
+        form: Form::Names,
+        value: "NAME",
+        is_required: false,
+        help: "Only types of these names, and the types that they need",
+    },
+    Argument {
+        of: &["compat"],
+        name: "names",
+        form: Form::Names,
+        value: "NAME",
+        is_required: true,
+        help: "The types",
+    },
+    Argument {
+        of: &["check"],
+        name: "target",
+        form: Form::Value,
+        value: "TABLE",
+        is_required: false,
+        help: "Write also the relocations that this table, the kernel's, cannot satisfy",
+    },
+    Argument {
+        of: &["relocate"],
+        name: "target",
+        form: Form::Values,
+        value: "TABLE",
+        is_required: false,
+        help: "The kernel's object or table, by default that of the running kernel; each further one \
+              is that of a module",
+    },
+    Argument {
+        of: &["dump", "header", "layout", "ext"],
+        name: "base",
+        form: Form::Value,
+        value: "BASE",
+        is_required: false,
+        help: "The kernel's object or table, if FILE has the split table of a module",
+    },
+    Argument {
+        of: &["compat"],
+        name: "base",
+        form: Form::Value,
+        value: "BASE",
+        is_required: false,
+        help: "The kernel's object or table, if TARGET has the split table of a module",
+    },
+    Argument {
+        of: &["relocate"],
+        name: "base",
+        form: Form::Value,
+        value: "BASE",
+        is_required: false,
+        help: "The kernel's object or table, if TABLE has the split table of a module",
+    },
+    Argument {
+        of: &["dump"],
+        name: "ids",
+        form: Form::Value,
+        value: "A..B",
+        is_required: false,
+        help: "Only ids from A on and below B, either of which may be left out; or only this id",
+    },
+    Argument {
+        of: &["dump"],
+        name: "name",
+        form: Form::Value,
+        value: "TEXT",
+        is_required: false,
+        help: "Only types of this name",
+    },
+    Argument {
+        of: &["dump", "header"],
+        name: "kind",
+        form: Form::Kind,
+        value: "KIND",
+        is_required: false,
+        help: "Only types of this kind",
+    },
+    Argument {
+        of: &["sanitize"],
+        name: "output",
+        form: Form::Output,
+        value: "OUT",
+        is_required: true,
+        help: "The new file; - is standard output",
+    },
+    Argument {
+        of: &["relocate"],
+        name: "output",
+        form: Form::Output,
+        value: "OUT",
+        is_required: false,
+        help: "Write the relocated object to this file, and no list; - is standard output",
+    },
+    Argument {
+        of: &["sanitize"],
+        name: "table-only",
+        form: Form::Flag,
+        value: "",
+        is_required: false,
+        help: "Write the rewritten table alone, which a loader gives to the kernel",
+    },
+    Argument {
+        of: &["check", "sanitize"],
+        name: "kernel",
+        form: Form::Value,
+        value: "VERSION",
+        is_required: false,
+        help: "The features of this version of Linux, as 5.4 or what uname -r prints; from 4.18 on",
+    },
+    Argument {
+        of: &["check", "sanitize"],
+        name: "has",
+        form: Form::Features,
+        value: "FEATURE",
+        is_required: false,
+        help: "These features, with commas between them",
+    },
+    Argument {
+        of: &["check", "sanitize"],
+        name: "fill-sized",
+        form: Form::Flag,
+        value: "",
+        is_required: false,
+        help: "Give a DATASEC that has a size and no entries one, where the kernel takes none without",
+    },
+    Argument {
+        of: &["check", "sanitize"],
+        name: "placeholder",
+        form: Form::Value,
+        value: "NAME",
+        is_required: false,
+        help: "The variable that takes the place of functions in .ksyms; implies --no-finalize",
+    },
+    Argument {
+        of: &["check", "sanitize"],
+        name: "no-finalize",
+        form: Form::Flag,
+        value: "",
+        is_required: false,
+        help: "Rewrite the table as the compiler wrote it; else it first gets its offsets and sizes, \
+              as libbpf sets them",
+    },
+    Argument {
+        of: &["relocate"],
+        name: "fresh",
+        form: Form::Flag,
+        value: "",
+        is_required: false,
+        help: "Give each record all candidates, as the kernel does, not as libbpf",
+    },
+    Argument {
+        of: &["relocate"],
+        name: "keep-going",
+        form: Form::Flag,
+        value: "",
+        is_required: false,
+        help: "With -o: write the object even if a record has an error",
+    },
+    Argument {
+        of: &["relocate"],
+        name: "allow-poison",
+        form: Form::Flag,
+        value: "",
+        is_required: false,
+        help: "Status 0 where an instruction is poisoned, as in dead code",
+    },
+    Argument {
+        of: &["relocate"],
+        name: "json",
+        form: Form::Flag,
+        value: "",
+        is_required: false,
+        help: "Write the list as a JSON document",
+    },
+];
+
+/// The commands in the order of the help.
+static COMMANDS: [Description; 8] = [
+    Description {
+        name: "dump",
+        about: "Writes every type, as bpftool btf dump file FILE format raw does",
+        after_help: "Example: btfobj dump /sys/kernel/btf/vmlinux --name task_struct --kind struct",
+        is_for_kernel: false,
+    },
+    Description {
+        name: "header",
+        about: "Writes the types as a C header, as bpftool btf dump file FILE format c does",
+        after_help: "Examples: btfobj header /sys/kernel/btf/vmlinux > vmlinux.h\n          \
+             btfobj header vmlinux task_struct sk_buff --kind struct",
+        is_for_kernel: false,
+    },
+    Description {
+        name: "layout",
+        about: "Writes the members of a structure or a union with their offsets, sizes and holes, as pahole does",
+        after_help: "Example: btfobj layout /sys/kernel/btf/vmlinux sk_buff",
+        is_for_kernel: false,
+    },
+    Description {
+        name: "ext",
+        about: "Writes the functions, lines and relocations of .BTF.ext, by sections of the program",
+        after_help: "Example: btfobj ext prog.o",
+        is_for_kernel: false,
+    },
+    Description {
+        name: "check",
+        about: "Writes what the table needs of a kernel, and which types a rewrite for the kernel changes",
+        after_help: "Examples: btfobj check prog.o --kernel 5.4\n          \
+             btfobj check prog.o --kernel 5.15 --target vmlinux-5.15\n\
+             Exit status: 0 where the kernel has what the table needs and each relocation has a value,\n\
+             1 where it has not or a relocation has an error, 3 where a relocation poisons its instruction.",
+        is_for_kernel: true,
+    },
+    Description {
+        name: "sanitize",
+        about: "Rewrites the table for a kernel, as a loader does when it loads the object",
+        after_help: "Examples: btfobj sanitize prog.o -o prog.5.4.o --kernel 5.4\n          \
+             btfobj sanitize prog.o -o prog.old.o --has Func,DataSec --fill-sized",
+        is_for_kernel: true,
+    },
+    Description {
+        name: "relocate",
+        about: "Applies the CO-RE relocations of an object for a kernel, or lists what they do",
+        after_help: "Examples: btfobj relocate prog.o\n          \
+             btfobj relocate prog.o --target vmlinux -o prog.relocated.o\n          \
+             btfobj relocate prog.o --target vmlinux --target module.ko\n\
+             Exit status: 0 where each record has a value, 1 where a record has an error, 3 where an\n\
+             instruction is poisoned.",
+        is_for_kernel: false,
+    },
+    Description {
+        name: "compat",
+        about: "Says whether types of these names are compatible in two tables, as a relocation of the first asks",
+        after_help: "Example: btfobj compat prog.o /sys/kernel/btf/vmlinux task_struct\n\
+             Exit status: 0 where all are compatible, else 1.",
+        is_for_kernel: false,
+    },
+];
+
+/// An argument as its form says.
+fn argument<'a>(alloc: Global, row: &'a Argument) -> Arg<'a> {
+    let arg = Arg::new(alloc, row.name)
+        .help(row.help)
+        .required(row.is_required);
+    match row.form {
+        Form::File => arg.value_name(row.value),
+        Form::Names => arg.value_name(row.value).num_args(1..),
+        Form::Value => arg.long(row.name).value_name(row.value),
+        Form::Values => arg
+            .long(row.name)
+            .value_name(row.value)
+            .action(ArgAction::Append),
+        Form::Flag => arg.long(row.name).action(ArgAction::SetTrue),
+        Form::Output => arg.long(row.name).value_name(row.value).short('o'),
+        Form::Kind => arg
+            .long(row.name)
+            .value_name(row.value)
+            .value_parser(KINDS.as_slice())
+            .ignore_case(true),
+        Form::Features => arg
+            .long(row.name)
+            .value_name(row.value)
+            .value_delimiter(',')
+            .value_parser(FEATURE_NAMES.as_slice()),
+    }
+}
+
+/// The arguments of which one has to be given.
+fn kernel_or_has<'a>(alloc: Global) -> Result<ArgGroup<'a>, AllocError> {
+    let group = ArgGroup::new(alloc, "features").arg("kernel")?;
+    Ok(group.arg("has")?.required(true))
+}
+
+/// A command with its arguments.
+fn described<'a>(alloc: Global, row: &'a Description) -> Result<Command<'a>, AllocError> {
+    let mut command = Command::new(alloc, row.name)
+        .about(row.about)
+        .after_help(row.after_help);
+    for it in ARGUMENTS.iter().filter(|it| it.of.contains(&row.name)) {
+        command = command.arg(argument(alloc, it))?;
+    }
+    Ok(command)
+}
+
+/// A command with its arguments, and with the group of those about a kernel if it is for one.
+fn subcommand<'a>(alloc: Global, row: &'a Description) -> Result<Command<'a>, AllocError> {
+    let command = described(alloc, row)?;
+    if row.is_for_kernel {
+        command.group(kernel_or_has(alloc)?)
+    } else {
+        Ok(command)
+    }
+}
+
 /// The whole command line.
 pub fn command<'a>(alloc: Global) -> Result<Command<'a>, AllocError> {
-    let command = Command::new(alloc, "btfobj")
+    let mut command = Command::new(alloc, "btfobj")
         .version(VERSION)
         .about("Reads and rewrites the BTF of ELF objects, and BTF tables alone")
         .subcommand_required(true)
@@ -42,312 +431,8 @@ pub fn command<'a>(alloc: Global) -> Result<Command<'a>, AllocError> {
              Exit status: 0, 1 where a file is refused or a check says no, 2 for the command line,\n\
              3 where a relocation poisons its instruction.",
         );
-    with_kernel_commands(alloc, with_text_commands(alloc, command)?)
-}
-
-/// Adds the commands that write text.
-fn with_text_commands<'a>(alloc: Global, command: Command<'a>) -> Result<Command<'a>, AllocError> {
-    command
-        .subcommand(dump(alloc)?)?
-        .subcommand(header(alloc)?)?
-        .subcommand(layout(alloc)?)?
-        .subcommand(ext(alloc)?)
-}
-
-/// Adds the commands that are about a kernel.
-fn with_kernel_commands<'a>(
-    alloc: Global,
-    command: Command<'a>,
-) -> Result<Command<'a>, AllocError> {
-    command
-        .subcommand(check(alloc)?)?
-        .subcommand(sanitize(alloc)?)?
-        .subcommand(relocate(alloc)?)?
-        .subcommand(compat(alloc)?)
-}
-
-/// A file to be read.
-fn file<'a>(alloc: Global, id: &'a str, name: &'a str, help: &'a str) -> Arg<'a> {
-    Arg::new(alloc, id)
-        .value_name(name)
-        .required(true)
-        .help(help)
-}
-
-/// The base of the table in a file.
-fn base<'a>(alloc: Global, of: &'a str) -> Arg<'a> {
-    let help = match of {
-        "FILE" => "The kernel's object or table, if FILE has the split table of a module",
-        "TARGET" => "The kernel's object or table, if TARGET has the split table of a module",
-        _ => "The kernel's object or table, if TABLE has the split table of a module",
-    };
-    Arg::new(alloc, "base")
-        .long("base")
-        .value_name("BASE")
-        .help(help)
-}
-
-/// An option with a value, and the help for it.
-fn option<'a>(alloc: Global, name: &'a str, value: &'a str, help: &'a str) -> Arg<'a> {
-    Arg::new(alloc, name)
-        .long(name)
-        .value_name(value)
-        .help(help)
-}
-
-/// A flag, and the help for it.
-fn flag<'a>(alloc: Global, name: &'a str, help: &'a str) -> Arg<'a> {
-    Arg::new(alloc, name)
-        .long(name)
-        .action(ArgAction::SetTrue)
-        .help(help)
-}
-
-/// The file that is written.
-fn output<'a>(alloc: Global, help: &'a str) -> Arg<'a> {
-    option(alloc, "output", "OUT", help).short('o')
-}
-
-/// The names of types.
-fn names<'a>(alloc: Global, help: &'a str) -> Arg<'a> {
-    Arg::new(alloc, "names")
-        .value_name("NAME")
-        .num_args(1..)
-        .help(help)
-}
-
-/// The command `dump`.
-fn dump<'a>(alloc: Global) -> Result<Command<'a>, AllocError> {
-    Command::new(alloc, "dump")
-        .about("Writes every type, as bpftool btf dump file FILE format raw does")
-        .after_help("Example: btfobj dump /sys/kernel/btf/vmlinux --name task_struct --kind struct")
-        .arg(file(alloc, "file", "FILE", "The object or table"))?
-        .arg(base(alloc, "FILE"))?
-        .arg(option(
-            alloc,
-            "ids",
-            "A..B",
-            "Only ids from A on and below B, either of which may be left out; or only this id",
-        ))?
-        .arg(option(alloc, "name", "TEXT", "Only types of this name"))?
-        .arg(kind(alloc))
-}
-
-/// The kind of the selected types.
-fn kind<'a>(alloc: Global) -> Arg<'a> {
-    Arg::new(alloc, "kind")
-        .long("kind")
-        .value_name("KIND")
-        .value_parser(KINDS.as_slice())
-        .ignore_case(true)
-        .help("Only types of this kind")
-}
-
-/// The command `header`.
-fn header<'a>(alloc: Global) -> Result<Command<'a>, AllocError> {
-    Command::new(alloc, "header")
-        .about("Writes the types as a C header, as bpftool btf dump file FILE format c does")
-        .after_help(
-            "Examples: btfobj header /sys/kernel/btf/vmlinux > vmlinux.h\n          \
-             btfobj header vmlinux task_struct sk_buff --kind struct",
-        )
-        .arg(file(alloc, "file", "FILE", "The object or table"))?
-        .arg(names(
-            alloc,
-            "Only types of these names, and the types that they need",
-        ))?
-        .arg(base(alloc, "FILE"))?
-        .arg(kind(alloc))
-}
-
-/// The command `layout`.
-fn layout<'a>(alloc: Global) -> Result<Command<'a>, AllocError> {
-    Command::new(alloc, "layout")
-        .about(
-            "Writes the members of a structure or a union with their offsets, sizes and holes, as pahole does",
-        )
-        .after_help("Example: btfobj layout /sys/kernel/btf/vmlinux sk_buff")
-        .arg(base(alloc, "FILE"))?
-        .arg(file(alloc, "file", "FILE", "The object or table"))?
-        .arg(file(
-            alloc,
-            "name",
-            "NAME",
-            "The structure, the union, or the typedef of one",
-        ))
-}
-
-/// The command `ext`.
-fn ext<'a>(alloc: Global) -> Result<Command<'a>, AllocError> {
-    Command::new(alloc, "ext")
-        .about(
-            "Writes the functions, lines and relocations of .BTF.ext, by sections of the program",
-        )
-        .after_help("Example: btfobj ext prog.o")
-        .arg(base(alloc, "FILE"))?
-        .arg(file(alloc, "file", "FILE", "The object"))
-}
-
-/// The command `check`.
-fn check<'a>(alloc: Global) -> Result<Command<'a>, AllocError> {
-    let command = Command::new(alloc, "check")
-        .about(
-            "Writes what the table needs of a kernel, and which types a rewrite for the kernel changes",
-        )
-        .after_help(
-            "Examples: btfobj check prog.o --kernel 5.4\n          \
-             btfobj check prog.o --kernel 5.15 --target vmlinux-5.15\n\
-             Exit status: 0 where the kernel has what the table needs and each relocation has a value,\n\
-             1 where it has not or a relocation has an error, 3 where a relocation poisons its instruction.",
-        )
-        .arg(file(alloc, "file", "FILE", "The object or table"))?
-        .arg(option(
-            alloc,
-            "target",
-            "TABLE",
-            "Write also the relocations that this table, the kernel's, cannot satisfy",
-        ))?;
-    with_kernel(alloc, command)
-}
-
-/// The command `sanitize`.
-fn sanitize<'a>(alloc: Global) -> Result<Command<'a>, AllocError> {
-    let command = Command::new(alloc, "sanitize")
-        .about("Rewrites the table for a kernel, as a loader does when it loads the object")
-        .after_help(
-            "Examples: btfobj sanitize prog.o -o prog.5.4.o --kernel 5.4\n          \
-             btfobj sanitize prog.o -o prog.old.o --has Func,DataSec --fill-sized",
-        )
-        .arg(file(alloc, "file", "FILE", "The object or table"))?
-        .arg(output(alloc, "The new file; - is standard output").required(true))?
-        .arg(flag(
-            alloc,
-            "table-only",
-            "Write the rewritten table alone, which a loader gives to the kernel",
-        ))?;
-    with_kernel(alloc, command)
-}
-
-/// Adds the arguments that describe a rewrite and its kernel.
-fn with_kernel<'a>(alloc: Global, command: Command<'a>) -> Result<Command<'a>, AllocError> {
-    with_features(alloc, command)?
-        .arg(flag(
-            alloc,
-            "fill-sized",
-            "Give a DATASEC that has a size and no entries one, where the kernel takes none without",
-        ))?
-        .arg(option(
-            alloc,
-            "placeholder",
-            "NAME",
-            "The variable that takes the place of functions in .ksyms; implies --no-finalize",
-        ))?
-        .arg(flag(
-            alloc,
-            "no-finalize",
-            "Rewrite the table as the compiler wrote it; else it first gets its offsets and sizes, as libbpf sets them",
-        ))
-}
-
-/// Adds the arguments for the features of a kernel, of which one has to be given.
-fn with_features<'a>(alloc: Global, command: Command<'a>) -> Result<Command<'a>, AllocError> {
-    command
-        .arg(option(
-            alloc,
-            "kernel",
-            "VERSION",
-            "The features of this version of Linux, as 5.4 or what uname -r prints; from 4.18 on",
-        ))?
-        .arg(features(alloc))?
-        .group(kernel_or_has(alloc)?)
-}
-
-/// The features by their names.
-fn features<'a>(alloc: Global) -> Arg<'a> {
-    option(
-        alloc,
-        "has",
-        "FEATURE",
-        "These features, with commas between them",
-    )
-    .value_delimiter(',')
-    .value_parser(FEATURE_NAMES.as_slice())
-}
-
-/// The arguments of which one has to be given.
-fn kernel_or_has<'a>(alloc: Global) -> Result<ArgGroup<'a>, AllocError> {
-    let group = ArgGroup::new(alloc, "features").arg("kernel")?;
-    Ok(group.arg("has")?.required(true))
-}
-
-/// The command `relocate`.
-fn relocate<'a>(alloc: Global) -> Result<Command<'a>, AllocError> {
-    let command = Command::new(alloc, "relocate")
-        .about("Applies the CO-RE relocations of an object for a kernel, or lists what they do")
-        .after_help(
-            "Examples: btfobj relocate prog.o\n          \
-             btfobj relocate prog.o --target vmlinux -o prog.relocated.o\n          \
-             btfobj relocate prog.o --target vmlinux --target module.ko\n\
-             Exit status: 0 where each record has a value, 1 where a record has an error, 3 where an\n\
-             instruction is poisoned.",
-        )
-        .arg(file(alloc, "file", "FILE", "The program's object"))?
-        .arg(targets(alloc))?
-        .arg(base(alloc, "TABLE"))?
-        .arg(output(
-            alloc,
-            "Write the relocated object to this file, and no list; - is standard output",
-        ))?;
-    with_relocation_flags(alloc, command)
-}
-
-/// The tables of a kernel and of its modules.
-fn targets<'a>(alloc: Global) -> Arg<'a> {
-    option(
-        alloc,
-        "target",
-        "TABLE",
-        "The kernel's object or table, by default that of the running kernel; each further one is that of a module",
-    )
-    .action(ArgAction::Append)
-}
-
-/// Adds the flags of `relocate`.
-fn with_relocation_flags<'a>(
-    alloc: Global,
-    command: Command<'a>,
-) -> Result<Command<'a>, AllocError> {
-    command
-        .arg(flag(
-            alloc,
-            "fresh",
-            "Give each record all candidates, as the kernel does, not as libbpf",
-        ))?
-        .arg(flag(
-            alloc,
-            "keep-going",
-            "With -o: write the object even if a record has an error",
-        ))?
-        .arg(flag(
-            alloc,
-            "allow-poison",
-            "Status 0 where an instruction is poisoned, as in dead code",
-        ))?
-        .arg(flag(alloc, "json", "Write the list as a JSON document"))
-}
-
-/// The command `compat`.
-fn compat<'a>(alloc: Global) -> Result<Command<'a>, AllocError> {
-    Command::new(alloc, "compat")
-        .about(
-            "Says whether types of these names are compatible in two tables, as a relocation of the first asks",
-        )
-        .after_help(
-            "Example: btfobj compat prog.o /sys/kernel/btf/vmlinux task_struct\n\
-             Exit status: 0 where all are compatible, else 1.",
-        )
-        .arg(file(alloc, "local", "FILE", "The program's object or table"))?
-        .arg(file(alloc, "target", "TARGET", "The kernel's object or table"))?
-        .arg(base(alloc, "TARGET"))?
-        .arg(names(alloc, "The types").required(true))
+    for row in &COMMANDS {
+        command = command.subcommand(subcommand(alloc, row)?)?;
+    }
+    Ok(command)
 }

@@ -1,13 +1,6 @@
-//! Tests of the program's command lines: statuses, outputs and messages.
+//! Tests of the command lines of `btftool` over readers and writers that fail or are slow. tests/rows/btftool.rows
+//! has the others.
 #![tactic(auto)]
 
-#[cfg(test)]
-mod filling;
-#[cfg(test)]
-mod rewrite;
-#[cfg(test)]
-mod rewrite_lines;
-#[cfg(test)]
-mod runs;
 #[cfg(test)]
 mod streams;

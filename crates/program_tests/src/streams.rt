@@ -1,11 +1,39 @@
 //! Streams that move a few bytes at a time, are interrupted, or fail at each of their calls in turn.
 
-use crate::runs::{blob_of, words};
 use btf_cli::run;
-use std::alloc::Global;
+use std::alloc::{AllocError, Global};
 use std::io;
 use std::io::{ErrorKind, Read, Write};
 use std::test::Fail;
+
+/// The words of a line, separated by single spaces.
+fn words(alloc: Global, line: &str) -> Result<Vec<String>, AllocError> {
+    let mut words = Vec::new(alloc);
+    for word in line.split(' ') {
+        words.push(word.to_string(alloc)?)?;
+    }
+    Ok(words)
+}
+
+/// A reader or a writer that always fails.
+#[derive(Drop)]
+struct Failing;
+
+impl Read for Failing {
+    fn read(&mut self, _buf: &mut [u8]) -> io::Result<usize> {
+        Err(io::Error::from(ErrorKind::Other))
+    }
+}
+
+impl Write for Failing {
+    fn write(&mut self, _buf: &[u8]) -> io::Result<usize> {
+        Err(io::Error::from(ErrorKind::Other))
+    }
+
+    fn flush(&mut self) -> io::Result<()> {
+        Err(io::Error::from(ErrorKind::Other))
+    }
+}
 
 /// A reader that moves at most `at_once` bytes a call, and fails once, after `before` calls.
 #[derive(Drop)]
@@ -104,11 +132,13 @@ fn write_slowly(
     Ok((out.taken, text))
 }
 
-/// The table of one INT, and the lines of the five commands over it, with their outputs.
-fn int(alloc: Global) -> Result<Vec<u8>, Fail> {
-    blob_of(alloc, "1 1000000 4 1000020", "\0int\0")
-}
+/// A table of one INT.
+static INT_TABLE: [u8; 45] = [
+    0x9f, 0xeb, 1, 0, 0x18, 0, 0, 0, 0, 0, 0, 0, 0x10, 0, 0, 0, 0x10, 0, 0, 0, 5, 0, 0, 0, 1, 0, 0,
+    0, 0, 0, 0, 1, 4, 0, 0, 0, 0x20, 0, 0, 1, 0, 0x69, 0x6e, 0x74, 0,
+];
 
+/// The lines of the five commands over that table, with their outputs.
 static LINES: [(&str, &str); 5] = [
     ("little types", "1 [INT] int\n"),
     ("little size 1", "4\n"),
@@ -130,9 +160,8 @@ fn failing_reads(
     kind: ErrorKind,
     fault: &str,
 ) -> Result<usize, Fail> {
-    let blob = int(alloc)?;
     for before in 0..64 {
-        let said = read_slowly(alloc, line, &blob, Way(16, Some(before), kind))?;
+        let said = read_slowly(alloc, line, &INT_TABLE, Way(16, Some(before), kind))?;
         if said.strip_prefix("0 ") == Some(wanted) {
             return Ok(before);
         }
@@ -197,28 +226,36 @@ fn failing_writes(
 
 #[test]
 fn each_write_fails_in_turn(rt: HostRuntime) -> Result<(), Fail> {
-    let blob = int(rt.alloc())?;
     for &(line, wanted) in &LINES {
-        let failing = failing_writes(rt.alloc(), line, &blob, wanted, 3)?;
+        let failing = failing_writes(rt.alloc(), line, &INT_TABLE, wanted, 3)?;
         assert!(rt; failing > 0, "{line}");
     }
     Ok(())
 }
 
-/// A table of INTs whose listing is longer than the program's buffer, and this listing.
-fn ints(alloc: Global) -> Result<(Vec<u8>, String), Fail> {
-    let mut records = String::new(alloc);
+/// A table of 900 INTs, whose listing is longer than the program's buffer.
+fn ints(alloc: Global) -> Result<Vec<u8>, Fail> {
+    let mut blob = Vec::from_slice(alloc, b"\x9f\xeb\x01\0\x18\0\0\0\0\0\0\0")?;
+    blob.extend_from_slice(b"\x40\x38\0\0\x40\x38\0\0\x05\0\0\0")?;
+    for _ in 0..900 {
+        blob.extend_from_slice(b"\x01\0\0\0\0\0\0\x01\x04\0\0\0\x20\0\0\x01")?;
+    }
+    blob.extend_from_slice(b"\0int\0")?;
+    Ok(blob)
+}
+
+/// The listing of that table.
+fn listing(alloc: Global) -> Result<String, Fail> {
     let mut listing = String::new(alloc);
     for id in 1..901 {
-        records.push_str("1 1000000 4 1000020 ")?;
         writeln!(listing, "{id} [INT] int")?;
     }
-    Ok((blob_of(alloc, &records, "\0int\0")?, listing))
+    Ok(listing)
 }
 
 #[test]
 fn each_write_of_a_long_listing_fails_in_turn(rt: HostRuntime) -> Result<(), Fail> {
-    let (blob, listing) = ints(rt.alloc())?;
+    let (blob, listing) = (ints(rt.alloc())?, listing(rt.alloc())?);
     let failing = failing_writes(rt.alloc(), "little types", &blob, &listing, 4096)?;
     assert!(rt; failing == 4);
     Ok(())
@@ -226,9 +263,8 @@ fn each_write_of_a_long_listing_fails_in_turn(rt: HostRuntime) -> Result<(), Fai
 
 /// Whether a line has its output with a reader and a writer of these behaviours.
 fn is_moved(alloc: Global, line: &str, wanted: &str, way: Way) -> Result<bool, Fail> {
-    let blob = int(alloc)?;
-    let said = read_slowly(alloc, line, &blob, way)?;
-    let (taken, status) = write_slowly(alloc, line, &blob, way)?;
+    let said = read_slowly(alloc, line, &INT_TABLE, way)?;
+    let (taken, status) = write_slowly(alloc, line, &INT_TABLE, way)?;
     let is_begun = begins(alloc, &taken, wanted)?;
     Ok(said.strip_prefix("0 ") == Some(wanted) && is_begun && status.as_str() == "0 ")
 }
@@ -248,5 +284,43 @@ fn interrupted_calls_are_made_again(rt: HostRuntime) -> Result<(), Fail> {
         let way = Way(16, Some(1), ErrorKind::Interrupted);
         assert!(rt; is_moved(rt.alloc(), line, wanted, way)?, "{line}");
     }
+    Ok(())
+}
+
+/// The status and the message of a line whose input and output fail.
+fn failed(alloc: Global, line: &str) -> Result<String, Fail> {
+    let mut err = Vec::new(alloc);
+    let words = words(alloc, line)?;
+    let status = run(alloc, &words, &mut Failing, &mut Failing, &mut err);
+    said(alloc, status, &err)
+}
+
+/// Lines that are refused before the input is read, which would fail, and one that reads it.
+static FAILED: [(&str, &str); 3] = [
+    (
+        "little rewrite Funcs",
+        "2 usage: btftool little|big copy|types|size ID|compat ID ID|rewrite WORD..\n",
+    ),
+    (
+        "middle copy",
+        "2 usage: btftool little|big copy|types|size ID|compat ID ID|rewrite WORD..\n",
+    ),
+    ("little copy", "1 cannot read standard input\n"),
+];
+
+#[test]
+fn lines_are_read_before_the_input(rt: HostRuntime) -> Result<(), Fail> {
+    for &(line, message) in &FAILED {
+        let failed = failed(rt.alloc(), line)?;
+        assert!(rt; failed.as_str() == message, "{line}");
+    }
+    Ok(())
+}
+
+#[test]
+fn a_message_that_cannot_be_written_changes_nothing(rt: HostRuntime) -> Result<(), Fail> {
+    let words = words(rt.alloc(), "little copy")?;
+    let status = run(rt.alloc(), &words, &mut Failing, &mut Failing, &mut Failing);
+    assert!(rt; status == 1);
     Ok(())
 }

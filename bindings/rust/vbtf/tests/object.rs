@@ -2,9 +2,9 @@
 
 use vbtf::{Endianness, Error, Relocate, Table};
 
-/// A file that clang made for `crates/known_answers`.
+/// A file that clang made, of tests/objects.
 fn file(name: &str) -> Vec<u8> {
-    let folder = concat!(env!("CARGO_MANIFEST_DIR"), "/../../../crates/known_answers/data");
+    let folder = concat!(env!("CARGO_MANIFEST_DIR"), "/../../../tests/objects/relocated");
     std::fs::read(format!("{folder}/{name}")).unwrap()
 }
 

@@ -2,9 +2,9 @@
 
 use vbtf::{Endianness, Error, Table};
 
-/// A file of `crates/corpus_tests`: `base.btf`, the tables of modules over it, and what bpftool wrote of them.
+/// A file of `tests/corpus_data`: `base.btf`, the tables of modules over it, and what bpftool wrote of them.
 fn file(name: &str) -> Vec<u8> {
-    let folder = concat!(env!("CARGO_MANIFEST_DIR"), "/../../../crates/corpus_tests/data");
+    let folder = concat!(env!("CARGO_MANIFEST_DIR"), "/../../../tests/corpus_data");
     std::fs::read(format!("{folder}/{name}")).unwrap()
 }
 

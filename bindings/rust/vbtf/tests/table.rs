@@ -163,7 +163,7 @@ fn strings_are_added() {
 
 #[test]
 fn the_types_are_written_as_a_c_header() {
-    let folder = concat!(env!("CARGO_MANIFEST_DIR"), "/../../../crates/corpus_tests/data");
+    let folder = concat!(env!("CARGO_MANIFEST_DIR"), "/../../../tests/corpus_data");
     for object in ["clang14.bpfel.prog.o", "clang14.bpfeb.prog.o"] {
         let table = Table::open(format!("{folder}/{object}")).unwrap();
         let text = std::fs::read_to_string(format!("{folder}/{object}.header")).unwrap();
