@@ -365,7 +365,7 @@ static COMMANDS: [Description; 8] = [
 ];
 
 /// An argument as its form says.
-fn argument<'a>(alloc: Global, row: &'a Argument) -> Arg<'a> {
+fn arg_of<'a>(alloc: Global, row: &'a Argument) -> Arg<'a> {
     let arg = Arg::new(alloc, row.name)
         .help(row.help)
         .required(row.is_required);
@@ -404,7 +404,7 @@ fn described<'a>(alloc: Global, row: &'a Description) -> Result<Command<'a>, All
         .about(row.about)
         .after_help(row.after_help);
     for it in ARGUMENTS.iter().filter(|it| it.of.contains(&row.name)) {
-        command = command.arg(argument(alloc, it))?;
+        command = command.arg(arg_of(alloc, it))?;
     }
     Ok(command)
 }
