@@ -118,6 +118,14 @@ def parse(values, name):
 
 
 @call
+def parse_swapped(values, name):
+    """The same, in the other byte order than that of the bytes."""
+    table = Table.parse(values.library, values.data[name], 1 - values.number())
+    table.close()
+    return "taken"
+
+
+@call
 def fresh(values):
     """The number of types of a new table."""
     table = Table.new(values.library)
