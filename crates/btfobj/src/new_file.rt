@@ -2,6 +2,7 @@
 
 use std::fs::{File, Permissions};
 use std::io::{ErrorKind, Write};
+use std::os::unix::fs::PermissionsExt;
 use std::path::Path;
 use std::{fs, io, process};
 
@@ -11,16 +12,27 @@ const UNFINISHED: &str = ".btfobj-";
 /// Writes these bytes to a file.
 ///
 /// A regular file never has a part of them: they are written to a new file beside it, `NAME.btfobj-PID`, which takes
-/// the name at the end, and the mode of the file that had it. What an interrupted run left under such a name is
+/// the name at the end, and the permissions of the file that had it. What an interrupted run left under such a name is
 /// removed. A device, a pipe and a symbolic link keep their names: they are opened, and the bytes are written to what
 /// they are.
 pub fn write_file(rt: &HostRuntime, name: &str, bytes: &[u8]) -> io::Result<()> {
     match fs::symlink_metadata(rt, name) {
-        Ok(found) if found.is_file() => replace(rt, name, bytes, Some(found.permissions())),
+        Ok(found) if found.is_file() => replace(
+            rt,
+            name,
+            bytes,
+            Some(permissions(&found.permissions())),
+        ),
         Ok(_) => File::create(rt, name)?.write_all(bytes),
         Err(e) if e.kind() == ErrorKind::NotFound => replace(rt, name, bytes, None),
         Err(e) => Err(e),
     }
+}
+
+/// The permissions of a file without its set-id bits. The new bytes are not those that got these bits, and the new file
+/// may have another owner; the system takes them from a file that is written to.
+fn permissions(found: &Permissions) -> Permissions {
+    Permissions::from_mode(found.mode() & 0o1777)
 }
 
 /// Writes the bytes to a new file, which then replaces the one of a name.

@@ -1,13 +1,13 @@
 //! Standard output, which remembers why it failed.
 
 use std::io;
-use std::io::{ErrorKind, Write};
+use std::io::Write;
 
 /// Standard output. A command reports only that it cannot write; the reason is here.
 #[derive(Drop)]
 pub struct Output<'a> {
     rt: &'a HostRuntime,
-    failure: Option<ErrorKind>,
+    failure: Option<io::Error>,
 }
 
 impl<'a> Output<'a> {
@@ -17,8 +17,16 @@ impl<'a> Output<'a> {
     }
 
     /// The reason of the last failure; None if all was written.
-    pub fn failure(&self) -> Option<ErrorKind> {
+    pub fn into_failure(self) -> Option<io::Error> {
         self.failure
+    }
+}
+
+/// Another value of an error: that of the system, or one of its kind.
+fn same(error: &io::Error) -> io::Error {
+    match error.raw_os_error() {
+        Some(code) => io::Error::from_raw_os_error(code),
+        None => io::Error::from(error.kind()),
     }
 }
 
@@ -26,7 +34,7 @@ impl Write for Output<'_> {
     fn write(&mut self, bytes: &[u8]) -> io::Result<usize> {
         let written = self.rt.stdout().write(bytes);
         if let Err(e) = &written {
-            self.failure = Some(e.kind());
+            self.failure = Some(same(e));
         }
         written
     }

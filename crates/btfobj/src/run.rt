@@ -90,15 +90,17 @@ pub fn carry_out(rt: &HostRuntime, request: &Request<'_>) -> ExitCode {
         Ok(Answer::Yes) => ExitCode::SUCCESS,
         Ok(Answer::No) => ExitCode::FAILURE,
         Ok(Answer::Poisoned) => ExitCode::from(POISONED),
-        Err(failure) => report(rt, &failure, out.failure()),
+        Err(failure) => report(rt, &failure, out.into_failure()),
     }
 }
 
 /// Reports a failure, with the reason if standard output failed, and returns the status. A closed pipe is not reported.
-fn report(rt: &HostRuntime, failure: &Failure<'_>, output: Option<ErrorKind>) -> ExitCode {
+fn report(rt: &HostRuntime, failure: &Failure<'_>, output: Option<io::Error>) -> ExitCode {
     // An error of standard error cannot be reported.
     match output {
-        Some(ErrorKind::BrokenPipe) => return ExitCode::from(CLOSED_PIPE),
+        Some(reason) if reason.kind() == ErrorKind::BrokenPipe => {
+            return ExitCode::from(CLOSED_PIPE);
+        }
         Some(reason) => {
             let _ = eprintln!(rt; "btfobj: cannot write standard output: {reason}");
         }
