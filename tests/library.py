@@ -59,14 +59,26 @@ Tally = struct("Tally", ("records", c_uint64), ("poisoned", c_uint64), ("refused
 NameBytes = struct("NameBytes", ("at", ctypes.c_void_p), ("len", c_size_t))
 
 
+def compiled(kit, name, out, *flags):
+    """Compiles a file of this folder with the toolchain's clang, which needs nothing of the machine for that."""
+    source = os.path.join(os.path.dirname(os.path.abspath(__file__)), name)
+    words = [f"{kit}/toolchain/bin/clang", "-fPIC", "-O1", "-fno-builtin", *flags, "-c", source, "-o", out]
+    subprocess.run(words, check=True)
+
+
+def link_heap(kit, out):
+    """Links the heap for a program, of which an allocation can fail."""
+    with tempfile.TemporaryDirectory() as folder:
+        compiled(kit, "preload.c", f"{folder}/preload.o")
+        subprocess.run([f"{kit}/toolchain/bin/ld.lld", "-shared", "-o", out, f"{folder}/preload.o"], check=True)
+
+
 def link(objects, kit, out):
     """Links the shared library of these objects or archives, with a heap of which an allocation can fail. It needs only
     the toolchain."""
     tools = f"{kit}/toolchain/bin"
     with tempfile.TemporaryDirectory() as folder:
-        heap = os.path.join(os.path.dirname(os.path.abspath(__file__)), "heap.c")
-        flags = ["-fPIC", "-O1", "-fno-builtin", "-fvisibility=hidden"]
-        subprocess.run([f"{tools}/clang", *flags, "-c", heap, "-o", f"{folder}/heap.o"], check=True)
+        compiled(kit, "heap.c", f"{folder}/heap.o", "-fvisibility=hidden")
         archive = f"{kit}/c/liblibc_c.a"
         subprocess.run([f"{tools}/llvm-ar", "x", archive, "heap.pic.o"], cwd=folder, check=True)
         with open(f"{folder}/exports", "w", encoding="utf-8") as file:

@@ -7,6 +7,7 @@ import re
 import subprocess
 from typing import NamedTuple
 
+import library
 import plain
 import rows
 from calls import FEATURES, int_of, words_text
@@ -32,8 +33,7 @@ class Programs:
     def __init__(self, folders, kit, room):
         self.folders = folders
         self.heap = f"{room}/preload.so"
-        source = os.path.join(os.path.dirname(os.path.abspath(__file__)), "preload.c")
-        subprocess.run([f"{kit}/toolchain/bin/clang", "-shared", "-fPIC", "-O1", "-o", self.heap, source], check=True)
+        library.link_heap(kit, self.heap)
 
     def builds(self, name):
         """Returns the paths of the builds of a program: by each compiler that built it."""
