@@ -25,7 +25,7 @@ ALWAYS = "# in every sample"
 ROUND = "scripts/round.txt"
 HEAD = "# A round's number, and the part of the ring that it draws, from a place up to another (scripts/sampling.py).\n"
 PLACES = 16**4
-DRAWN = 16
+DRAWN = 8
 # The crates of which `rt must-fail` judges mutants too: they use no crate of this repository but btf_model.
 CHEAP = ("btf_elf_model", "btf_layout_model", "btf_model", "btf_order_model", "btf_split_model", "text_buffer")
 JUDGED = 2
