@@ -7,7 +7,7 @@ a row `CALL ARGUMENT.. = ANSWER`. A row may end in ` => NAME` before its answer:
 A line that ends in a backslash goes on with the next one. tests/README.md lists the calls.
 
 Words are hexadecimal numbers. `{i 2 32: 0 2000000 i-1}` repeats words for each number from 2 to 32; an `i` with an
-optional sum stands for the number.
+optional sum is the number.
 """
 
 from __future__ import annotations
