@@ -289,22 +289,35 @@ def types(values, local, one, target, other):
 # ---- changes: each is made to a copy of the table
 
 
+def changed_copy(values, name, call_, *given):
+    """Makes a call on a copy of a table, which a refused call has to leave as it was, and returns the copy."""
+    table = values.opened(name).clone()
+    values.made = table
+    before = table.bytes()
+    try:
+        values.library.call(call_, byref(table.handle), *given)
+    except library.Refused as refused:
+        values.library.end()
+        if table.bytes() != before:
+            refused.text = "the table has changed"
+        raise
+    return table
+
+
 @call
 def add_string(values, name, added):
     """The string offset of an added text."""
-    table, offset = values.opened(name).clone(), c_uint32()
-    values.made = table
-    values.library.call("vbtf_raw_add_string", byref(table.handle), *buffer(rows.unquoted(added)), byref(offset))
+    offset = c_uint32()
+    changed_copy(values, name, "vbtf_raw_add_string", *buffer(rows.unquoted(added)), byref(offset))
     return str(offset.value)
 
 
 @call
 def add_type(values, name, record):
     """The id of an added record, of which the words are defined."""
-    table, number = values.opened(name).clone(), c_uint32()
-    values.made = table
+    number = c_uint32()
     given = (*buffer(values.data[record]), c_uint32(values.number()))
-    values.library.call("vbtf_raw_add_type", byref(table.handle), *given, byref(number))
+    changed_copy(values, name, "vbtf_raw_add_type", *given, byref(number))
     return str(number.value)
 
 
@@ -353,7 +366,7 @@ def rewrite(values, name, program, granted, *options):
         values.library.end()
         if table.bytes() != before:
             return "the table has changed"
-        refused.text += f" after {asked_text(asked)}" if refused.status != library.OUT_OF_MEMORY else ""
+        refused.text += f" after {asked_text(asked)}"
         raise
     return asked_text(asked)
 

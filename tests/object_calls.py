@@ -7,7 +7,7 @@ from ctypes import byref, c_size_t, c_uint8, c_uint32, c_uint64
 import elf
 import library
 import rows
-from calls import KINDS, asked_text, call, int_of, kernel_of, sections_of, words_text
+from calls import KINDS, asked_text, call, changed_copy, int_of, kernel_of, sections_of, words_text
 from library import Refused, Table, buffer
 
 NOT_AN_OBJECT, UNKNOWN_TYPE, UNEXPECTED_TYPE, TOO_DEEP = 104, 9, 10, 12
@@ -268,18 +268,8 @@ def part(values, name, types, strings):
 
 
 def changed(values, name, call_, *given):
-    """Makes a call on a copy of a table, which a refused call leaves as it was, and returns its bytes."""
-    table = values.opened(name).clone()
-    values.made = table
-    before = table.bytes()
-    try:
-        values.library.call(call_, byref(table.handle), *given)
-    except Refused as refused:
-        values.library.end()
-        if table.bytes() != before:
-            refused.text = "the table has changed"
-        raise
-    return blob_text(values, table.bytes())
+    """Makes a call on a copy of a table, and returns its bytes."""
+    return blob_text(values, changed_copy(values, name, call_, *given).bytes())
 
 
 @call

@@ -162,6 +162,20 @@ def small_tables(values):
     return "btf_tests", [], "".join(lines).encode("utf-8"), shown
 
 
+def leaves_too_much(values, row, answer):
+    """Returns whether a call whose allocation failed left more than it may: pairs that are no beginning of the row's, or
+    a changed table. Other calls leave nothing that can be seen."""
+    failed, _, left = answer.partition(" ")
+    if failed != "OutOfMemory":
+        return False
+    if row.words[0] == "traced":
+        pairs, wanted = left.lstrip("; ").split(), rows.expanded(row.answer, "d").partition(";")[2].split()
+        return pairs != wanted[: len(pairs)]
+    if row.words[0] == "ksyms":
+        return left != digits_shown(values)(f"table {values.data[row.words[1]].hex()}").partition(" ")[2]
+    return False
+
+
 def words_of_table(data, order):
     """Returns the words of a table's types."""
     length = int.from_bytes(data[12:16], order)
