@@ -163,8 +163,8 @@ def small_tables(values):
 
 
 def leaves_too_much(values, row, answer):
-    """Returns whether a call whose allocation failed left more than it may: pairs that are no beginning of the row's, or
-    a changed table. Other calls leave nothing that can be seen."""
+    """Returns whether a call whose allocation failed left more than it may: pairs that are no beginning of the row's,
+    or a changed table. Other calls leave nothing that can be seen."""
     failed, _, left = answer.partition(" ")
     if failed != "OutOfMemory":
         return False
