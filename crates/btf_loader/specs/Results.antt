@@ -1,14 +1,16 @@
 -- What the steps of the loader return, in the definitions' terms.
 use Rattle.std.specs.Prelude.{ℕ, option_map, Bool, true, false, List, Option, Some, map}
 use Rattle.btf_model.specs.Table.{Table}
-use Rattle.btf_relocate_model.specs.Modules.{KernelSetting, Targets}
-use Rattle.btf_loader_model.specs.Loader.{Outcomes, relocated_file, relocated_at, section_at, IsRelocatedAmong}
+use Rattle.btf_relocate_model.specs.Modules.{Candidates, KernelSetting, Targets, left_after_section}
+use Rattle.btf_loader_model.specs.Loader.{Outcomes, left_at, relocated_file, relocated_at, section_at, IsRelocatedAmong}
 use Rattle.btf_relocate.specs.Modules.{targets_view}
 use Rattle.btf_loader.specs.declared.step.Loader.{Loader}
 use Rattle.btf_loader.specs.declared.step.Refusals.{Refusals}
 use Rattle.btf_loader.specs.declared.step.Refusals.TheVariants.{Refuse, Keep}
 use Rattle.btf_loader.specs.declared.step.SectionOutcomes.{SectionOutcomes}
 use Rattle.btf_relocate.specs.Sections.{is_shared}
+use Rattle.btf_relocate.specs.SectionsAmong.{candidates_left}
+use Rattle.btf_relocate.specs.declared.section.LeftCandidates.{LeftCandidates}
 use Rattle.btf_elf_model.specs.declared.section_header.SectionHeader.{SectionHeader}
 use Rattle.btf_loader_model.specs.Refused.{Reason, records_reason, sections_reason}
 use Rattle.btf_relocate.specs.declared.section.CandidatePolicy.{CandidatePolicy}
@@ -42,22 +44,37 @@ file_reason loader file sections =
     sections_reason (loader_setting loader) (is_shared loader.policy) (refuses_errors loader.refusals)
     loader.object.now file sections
 
+-- the candidates of each type that its sections so far have left
+abbrev pub left_in : Loader → LeftCandidates → ℕ → Candidates
+left_in loader left = candidates_left loader.policy loader.local.now loader.targets.now left
+
 -- what it makes of a file and one section of records, by the string offset of its name
-abbrev pub section_relocated : Loader → List ℕ → ℕ × List (List ℕ) → Outcomes × List ℕ
-section_relocated loader file section =
-    relocated_at (loader_setting loader) (is_shared loader.policy)
+abbrev pub section_relocated : Loader → (ℕ → Candidates) → List ℕ → ℕ × List (List ℕ) → Outcomes × List ℕ
+section_relocated loader left file section =
+    relocated_at (loader_setting loader) (is_shared loader.policy) left
     (section_at (loader_setting loader) loader.object.now section.0) file section.1
 
+-- the candidates that the section leaves
+abbrev pub left_by : Loader → (ℕ → Candidates) → ℕ × List (List ℕ) → ℕ → Candidates
+left_by loader left section =
+    left_at (loader_setting loader) (is_shared loader.policy) left
+    (section_at (loader_setting loader) loader.object.now section.0) section.1
+
 -- why it does not relocate that, if it does not
-abbrev pub loader_section_reason : Loader → List ℕ → ℕ × List (List ℕ) → Option Reason
-loader_section_reason loader file section =
+abbrev pub loader_section_reason : Loader → (ℕ → Candidates) → List ℕ → ℕ × List (List ℕ) → Option Reason
+loader_section_reason loader left file section =
     records_reason (loader_setting loader) (is_shared loader.policy) (refuses_errors loader.refusals)
-    loader.object.now file section
+    loader.object.now left file section
 
 -- what it makes of a file and the records of a section of the object
-abbrev pub code_relocated : Loader → List ℕ → SectionHeader → List (List ℕ) → Outcomes × List ℕ
-code_relocated loader file section records =
-    relocated_at (loader_setting loader) (is_shared loader.policy) (Some section) file records
+abbrev pub code_relocated : Loader → (ℕ → Candidates) → List ℕ → SectionHeader → List (List ℕ) → Outcomes × List ℕ
+code_relocated loader left file section records =
+    relocated_at (loader_setting loader) (is_shared loader.policy) left (Some section) file records
+
+-- the candidates that these records leave
+abbrev pub left_by_code : Loader → (ℕ → Candidates) → List (List ℕ) → ℕ → Candidates
+left_by_code loader left records =
+    left_after_section (loader_setting loader) (is_shared loader.policy) left records
 
 -- The bytes are an object with a table, and these are the outcomes of its records for a kernel with modules, and the
 -- file with its code relocated.

@@ -9,7 +9,7 @@ mod places;
 mod prepare;
 mod step;
 
-pub use btf_relocate::{CandidatePolicy, Outcome, Target, Targets};
+pub use btf_relocate::{CandidatePolicy, Report, Target, Targets};
 pub use error::{LoaderError, PrepareError};
 pub use loader::{relocate_object, relocate_object_among, relocate_object_with};
 pub use names::sections_by_name;

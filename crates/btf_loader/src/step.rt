@@ -9,7 +9,7 @@ ghost use Rattle.btf_loader_model.specs.Refused.{BadRecord, BadSectionName, bad_
 ghost use Rattle.btf_loader.specs.Errors.{Reports};
 ghost use Rattle.btf_loader.specs.Names.{HasIndices};
 ghost use Rattle.btf_loader.specs.Places.{HasPlaces};
-ghost use Rattle.btf_loader.specs.Results.{code_relocated, file_reason, file_relocated, loader_setting, outcomes_of, loader_section_reason, section_relocated, refuses_errors};
+ghost use Rattle.btf_loader.specs.Results.{code_relocated, file_reason, file_relocated, left_by, left_by_code, left_in, loader_setting, outcomes_of, loader_section_reason, section_relocated, refuses_errors};
 ghost use Rattle.btf_loader.specs.declared.step.Refusals.TheVariants.{Refuse};
 ghost use Rattle.btf_relocate.specs.Sections.{is_shared};
 ghost use Rattle.btf_table.specs.Readable.{IsReadableEnd};
@@ -20,7 +20,9 @@ use crate::places::Places;
 use btf_elf::{Object, SectionHeader};
 use btf_object::NAME_LIMIT;
 use btf_plain::BtfError;
-use btf_relocate::{CandidatePolicy, Outcome, RelocationError, Targets, relocate_section_among};
+use btf_relocate::{
+    CandidatePolicy, LeftCandidates, RelocationError, Report, Targets, relocate_records,
+};
 use btf_table::{Btf, short_name};
 use std::alloc::{AllocError, Global};
 use std::collections::BTreeMap;
@@ -40,8 +42,8 @@ pub enum Refusals {
 pub struct SectionOutcomes {
     /// The string offset of the section's name.
     pub name_offset: u32,
-    /// The outcome of each record; None if no section of this name has bytes in the file.
-    pub outcomes: Option<Vec<Outcome>>,
+    /// What was done for each record; None if no section of this name has bytes in the file.
+    pub outcomes: Option<Vec<Report>>,
 }
 
 /// What the relocation of each section needs.
@@ -61,7 +63,8 @@ pub struct Loader<'a, 'o, 't> {
 }
 
 impl<'a, 'o, 't> Loader<'a, 'o, 't> {
-    /// Relocates the code of each section of records in the file.
+    /// Relocates the code of each section of records in the file. The records of all sections share the candidates of
+    /// a type.
     pub fn relocate(
         &self,
         relocations: &[(u32, Vec<[u32; 4]>)],
@@ -80,34 +83,39 @@ impl<'a, 'o, 't> Loader<'a, 'o, 't> {
         ensures reports { Reports (file_reason self.now file.old (map relocation relocations.now))
             result }
     {
+        let mut left = LeftCandidates::new(self.alloc);
         let mut all = Vec::with_capacity(self.alloc, relocations.len())?;
         for index in 0..relocations.len() {
             let section = relocation_at(relocations, index);
-            let outcomes = self.relocate_records(section, file)?;
+            let outcomes = self.relocate_section(section, &mut left, file)?;
             push(&mut all, section.0, outcomes)?;
         }
         Ok(all)
     }
 
-    /// Relocates the code of one section of records.
-    fn relocate_records(
+    /// Relocates the code of one section of records. `left` are the candidates that the sections before it have left.
+    fn relocate_section(
         &self,
         section: &(u32, Vec<[u32; 4]>),
+        left: &mut LeftCandidates<'a, 't>,
         file: &mut [u8],
-    ) -> Result<Option<Vec<Outcome>>, LoaderError>
+    ) -> Result<Option<Vec<Report>>, LoaderError>
         requires named { HasIndices self.now.named.now self.now.object.now }
         requires placed { HasPlaces self.now.places.now self.now.object.now.sections }
         requires readable { IfSome self.now.readable_end
             (IsReadableEnd self.now.local.now.strings) }
         ensures relocated { IfOk result
             (λ r. (option_map (λ v. v.items) r, file.new)
-            ≡ section_relocated self.now file.old (relocation section.now)) }
+            ≡ section_relocated self.now (left_in self.now left.old) file.old
+            (relocation section.now)) }
+        ensures left { OnOk result (left_in self.now left.new
+            ≡ left_by self.now (left_in self.now left.old) (relocation section.now)) }
         ensures refused { IfOk result (λ r. self.now.refusals ≡ Refuse
             → has_error (option_map (λ v. v.items) r) ≡ false) }
         ensures readable { OnOk result
             (is_err (text_at self.now.local.now.strings section.now.0) ≡ false) }
-        ensures reports { Reports (loader_section_reason self.now file.old (relocation section.now))
-            result }
+        ensures reports { Reports (loader_section_reason self.now (left_in self.now left.old)
+            file.old (relocation section.now)) result }
     {
         let Some(index) = self.index_of(section.0)? else {
             return Ok(None);
@@ -118,7 +126,7 @@ impl<'a, 'o, 't> Loader<'a, 'o, 't> {
         let Some(header) = self.object.sections().get(index) else {
             return Ok(None);
         };
-        let outcomes = self.relocate_code(header, &section.1, file)?;
+        let outcomes = self.relocate_code(header, &section.1, left, file)?;
         check(self.refusals, section.0, &outcomes)?;
         Ok(Some(outcomes))
     }
@@ -128,21 +136,26 @@ impl<'a, 'o, 't> Loader<'a, 'o, 't> {
         &self,
         section: &SectionHeader,
         records: &[[u32; 4]],
+        left: &mut LeftCandidates<'a, 't>,
         file: &mut [u8],
-    ) -> Result<Vec<Outcome>, AllocError>
-        ensures { IfOk result (λ v. (Some v.items, file.new)
-            ≡ code_relocated self.now file.old section.now records.now) }
+    ) -> Result<Vec<Report>, AllocError>
+        ensures relocated { IfOk result (λ v. (Some v.items, file.new)
+            ≡ code_relocated self.now (left_in self.now left.old) file.old section.now
+            records.now) }
+        ensures left { OnOk result (left_in self.now left.new
+            ≡ left_by_code self.now (left_in self.now left.old) records.now) }
     {
         let start = file.len().min(section.offset as usize);
         let len = (file.len() - start).min(section.size as usize);
         let code = &mut file[start..start + len];
-        relocate_section_among(
+        relocate_records(
             self.alloc,
             self.local,
             self.targets,
             records,
             code,
             self.policy,
+            left,
         )
     }
 
@@ -203,7 +216,7 @@ fn relocation_at(all: &[(u32, Vec<[u32; 4]>)], index: usize) -> &(u32, Vec<[u32;
 fn push(
     all: &mut Vec<SectionOutcomes>,
     name_offset: u32,
-    outcomes: Option<Vec<Outcome>>,
+    outcomes: Option<Vec<Report>>,
 ) -> Result<(), AllocError>
     ensures { OnOk result (all.new.items ≡ all.old.items
         ++ (record { name_offset = name_offset; outcomes = outcomes }) ∷ []) }
@@ -216,7 +229,7 @@ fn push(
 }
 
 /// Refuses a section of records if an outcome is an error, unless errors are kept.
-fn check(refusals: Refusals, name_offset: u32, outcomes: &[Outcome]) -> Result<(), LoaderError>
+fn check(refusals: Refusals, name_offset: u32, outcomes: &[Report]) -> Result<(), LoaderError>
     ensures refused { OnOk result (refusals ≡ Refuse → list_any is_error outcomes.now ≡ false) }
     ensures reports { Reports (if refuses_errors refusals
         then bad_outcome name_offset (Some outcomes.now) else None) result }
@@ -231,23 +244,23 @@ fn check(refusals: Refusals, name_offset: u32, outcomes: &[Outcome]) -> Result<(
     }
 }
 
-/// The outcome at an index.
-fn outcome_at(outcomes: &[Outcome], index: usize) -> &Outcome
-    requires { index < length outcomes.now }
-    ensures { drop index outcomes.now ≡ result.now ∷ drop (index + 1) outcomes.now }
+/// The report at an index.
+fn report_at(reports: &[Report], index: usize) -> &Report
+    requires { index < length reports.now }
+    ensures { drop index reports.now ≡ result.now ∷ drop (index + 1) reports.now }
 {
-    &outcomes[index]
+    &reports[index]
 }
 
 /// The first outcome that is an error, with its index.
-fn first_error(outcomes: &[Outcome]) -> Option<(usize, RelocationError)>
+fn first_error(outcomes: &[Report]) -> Option<(usize, RelocationError)>
     ensures none { IfNone result (list_any is_error outcomes.now ≡ false) }
     ensures first { (name_offset : ℕ) → bad_record name_offset 0 outcomes.now
         ≡ option_map (λ found. BadRecord name_offset found.0 found.1) result }
 {
     for index in 0..outcomes.len() {
-        if let Err(cause) = outcome_at(outcomes, index) {
-            return Some((index, *cause));
+        if let Err(cause) = report_at(outcomes, index).outcome {
+            return Some((index, cause));
         }
     }
     None

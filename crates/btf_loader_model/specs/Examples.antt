@@ -11,16 +11,28 @@ use Rattle.btf_elf_model.specs.Section.{has_bytes, sht_nobits}
 use Rattle.btf_elf_model.specs.declared.section_header.SectionHeader.{SectionHeader}
 use Rattle.btf_relocate_model.specs.declared.error.RelocationError.TheVariants.{BadAccess, BadIndex}
 use Rattle.btf_relocate_model.specs.declared.instruction.Patched.TheVariants.{Written}
+use Rattle.btf_relocate_model.specs.declared.report.Report.{Report}
 use Rattle.btf_loader_model.specs.Loader.{code_index, index_at, is_short_at, file_overwritten, any_error, is_unreadable}
 use Rattle.btf_loader_model.specs.Refused.{Reason, BadSectionName, SharedPlace, BadRecord, bad_record, shares_place, shared_place, section_reason, reason_when}
 
 two_bytes_in_place : file_overwritten 1 (7 ∷ 8 ∷ []) (1 ∷ 2 ∷ 3 ∷ 4 ∷ []) ≡ 1 ∷ 7 ∷ 8 ∷ 4 ∷ []
 two_bytes_in_place = refl
 
+-- a record that was patched, and two with an error
+written : Report
+written = record { outcome = Ok Written; matched = None; before = None; after = None }
+
+bad_access : Report
+bad_access = record written { outcome = Err BadAccess }
+
+bad_index : Report
+bad_index = record written { outcome = Err BadIndex }
+
 -- the second section of records has an error; one that names no section of the object has none
 errors_of_records :
-    (any_error ((1, Some (Ok Written ∷ [])) ∷ (5, Some (Ok Written ∷ Err BadAccess ∷ [])) ∷ []) ≡ true)
-    × (any_error ((1, Some (Ok Written ∷ [])) ∷ (5, None) ∷ []) ≡ false)
+    (any_error ((1, Some (written ∷ [])) ∷ (5, Some (written ∷ bad_access ∷ [])) ∷ []) ≡ true)
+    × (any_error ((1, Some (written ∷ [])) ∷ (5, None) ∷ []) ≡ false)
+unfolding written bad_access
 errors_of_records = (refl, refl)
 
 -- in the strings "\0a" the name at 1 has no end
@@ -41,8 +53,9 @@ limit_of_names_in_the_table = (refl, refl)
 
 -- the first record with an error, by its index
 first_bad_record :
-    (bad_record 5 0 (Ok Written ∷ Err BadAccess ∷ Err BadIndex ∷ []) ≡ Some (BadRecord 5 1 BadAccess))
-    × (bad_record 5 0 (Ok Written ∷ Ok Written ∷ []) ≡ None)
+    (bad_record 5 0 (written ∷ bad_access ∷ bad_index ∷ []) ≡ Some (BadRecord 5 1 BadAccess))
+    × (bad_record 5 0 (written ∷ written ∷ []) ≡ None)
+unfolding written bad_access bad_index
 first_bad_record = (refl, refl)
 
 -- a section of a type that has these bytes of the file
@@ -78,7 +91,8 @@ shared_places = (refl, refl, refl, refl)
 place_before_records :
     (g : KernelSetting) (o : Object) (name_offset index : ℕ) → is_err (text_at g.local.strings name_offset) ≡ false
     → index_at g o name_offset ≡ Some index → shares_place o.sections index ≡ true
-    → section_reason g true o name_offset (Some (Err BadAccess ∷ [])) ≡ Some (SharedPlace index)
+    → section_reason g true o name_offset (Some (bad_access ∷ [])) ≡ Some (SharedPlace index)
+unfolding written bad_access
 place_before_records g o name_offset index readable found shared =
     let bad : Option Reason = Some (BadRecord name_offset 0 BadAccess) in
     let place : Option Reason = option_and_then (shared_place o) (index_at g o name_offset) in

@@ -1,6 +1,8 @@
--- The file of an object whose code is relocated: its sections of relocation records, one after another.
--- Source: libbpf's `bpf_object__relocate_core`. That the first section of a name counts, that a section of records may
--- name no section, and that a long name names none, are choices of this project.
+-- The file of an object whose code is relocated: its sections of relocation records, one after another. The records of
+-- all sections share the candidates of a type.
+-- Source: libbpf's `bpf_object__relocate_core`, which has one cache of candidates for an object. That the first section
+-- of a name counts, that a section of records may name no section, and that a long name names none, are choices of this
+-- project.
 use Rattle.std.specs.Prelude.{◌≡◌, ℕ, ◌+◌, ◌&&◌, nat_lt, Bool, true, false, if◌then◌else◌, List, [], ◌∷◌, ◌++◌, length, take, drop, position, slice_get, Option, Some, None, is_some, option_map, Result, Ok, Err, is_err}
 use Rattle.std.specs.List.{list_any}
 use Rattle.std.specs.Option.{option_and_then}
@@ -16,13 +18,12 @@ use Rattle.btf_elf_model.specs.Section.{has_bytes}
 use Rattle.btf_elf_model.specs.declared.section_header.SectionHeader.{SectionHeader}
 use Rattle.btf_object_model.specs.Layout.{name_limit}
 use Rattle.btf_object_model.specs.Sanitized.{first_section_index, table_name, ext_name}
-use Rattle.btf_relocate_model.specs.Modules.{KernelSetting, Targets, alone, relocated_section_among}
-use Rattle.btf_relocate_model.specs.declared.error.RelocationError.{RelocationError}
-use Rattle.btf_relocate_model.specs.declared.instruction.Patched.{Patched}
+use Rattle.btf_relocate_model.specs.Modules.{Candidates, KernelSetting, Targets, all_candidates, alone, left_after_section, reported_section}
+use Rattle.btf_relocate_model.specs.declared.report.Report.{Report}
 
--- the outcome of each record of a section; none if no section has its name
+-- what was done for each record of a section; none if no section has its name
 abbrev pub Outcomes : Type 0
-Outcomes = Option (List (Result Patched RelocationError))
+Outcomes = Option (List Report)
 
 -- The index of the first section that has a name, and bytes in the file. A name that no rewrite asks for because of its
 -- length names no section of code.
@@ -55,31 +56,44 @@ section_at g o name_offset = option_and_then (slice_get o.sections) (index_at g 
 abbrev pub file_overwritten : ℕ → List ℕ → List ℕ → List ℕ
 file_overwritten at new file = take at file ++ new ++ drop (at + length new) file
 
--- The outcomes of the records of a section, and the file with its code relocated. Without a section the file stays.
-abbrev pub relocated_at : KernelSetting → Bool → Option SectionHeader → List ℕ → List (List ℕ) → Outcomes × List ℕ
-relocated_at g is_shared None file records = (None, file)
-relocated_at g is_shared (Some s) file records =
-    let r = relocated_section_among g.local g.targets is_shared (slice s.offset s.size file) records in
+-- The outcomes of the records of a section, and the file with its code relocated, where the sections before it have
+-- left these candidates of each type. Without a section the file stays.
+abbrev pub relocated_at : KernelSetting → Bool → (ℕ → Candidates) → Option SectionHeader → List ℕ → List (List ℕ)
+    → Outcomes × List ℕ
+relocated_at g is_shared left None file records = (None, file)
+relocated_at g is_shared left (Some s) file records =
+    let r = reported_section g is_shared left (slice s.offset s.size file) records in
     (Some r.0, file_overwritten s.offset r.1 file)
+
+-- The candidates of each type that the section leaves. Records without a section remove none.
+abbrev pub left_at : KernelSetting → Bool → (ℕ → Candidates) → Option SectionHeader → List (List ℕ) → ℕ → Candidates
+left_at g is_shared left None records = left
+left_at g is_shared left (Some s) records = left_after_section g is_shared left records
 
 -- the outcomes of a section of records, before those of later ones
 abbrev pub then_section : ℕ × Outcomes → List (ℕ × Outcomes) × List ℕ → List (ℕ × Outcomes) × List ℕ
 then_section s rest = (s ∷ rest.0, rest.1)
 
--- The outcomes of each section of records, with the string offset of its name, and the file after all of them.
+-- The outcomes of each section of records, with the string offset of its name, and the file after all of them, where
+-- the sections before them have left these candidates.
+abbrev pub relocated_from : KernelSetting → Bool → Object → (ℕ → Candidates) → List ℕ → List (ℕ × List (List ℕ))
+    → List (ℕ × Outcomes) × List ℕ
+relocated_from g is_shared o left file [] = ([], file)
+relocated_from g is_shared o left file (s ∷ rest) =
+    let at = section_at g o s.0 in
+    let r = relocated_at g is_shared left at file s.1 in
+    then_section (s.0, r.0) (relocated_from g is_shared o (left_at g is_shared left at s.1) r.1 rest)
+
+-- The same from the start, when each type has all its candidates.
 abbrev pub relocated_file : KernelSetting → Bool → Object → List ℕ → List (ℕ × List (List ℕ))
     → List (ℕ × Outcomes) × List ℕ
-relocated_file g is_shared o file [] = ([], file)
-relocated_file g is_shared o file (s ∷ rest) =
-    let r = relocated_at g is_shared (section_at g o s.0) file s.1 in
-    then_section (s.0, r.0) (relocated_file g is_shared o r.1 rest)
+relocated_file g is_shared o file sections = relocated_from g is_shared o (all_candidates g) file sections
 
 -- ---- errors of records
 
 -- the outcome of a record is an error
-abbrev pub is_error : Result Patched RelocationError → Bool
-is_error (Ok patched) = false
-is_error (Err error) = true
+abbrev pub is_error : Report → Bool
+is_error report = is_err report.outcome
 
 -- the outcome of a record of a section is an error
 abbrev pub has_error : Outcomes → Bool

@@ -15,10 +15,11 @@ use Rattle.btf_elf_model.specs.Section.{has_bytes}
 use Rattle.btf_elf_model.specs.declared.error.ParseError.{ParseError}
 use Rattle.btf_elf_model.specs.declared.section_header.SectionHeader.{SectionHeader}
 use Rattle.btf_object_model.specs.Sanitized.{table_name, ext_name}
-use Rattle.btf_relocate_model.specs.Modules.{KernelSetting, Targets, alone}
+use Rattle.btf_relocate_model.specs.Modules.{Candidates, KernelSetting, Targets, all_candidates, alone}
 use Rattle.btf_relocate_model.specs.declared.error.RelocationError.{RelocationError}
 use Rattle.btf_relocate_model.specs.declared.instruction.Patched.{Patched}
-use Rattle.btf_loader_model.specs.Loader.{Outcomes, AreRelocationSections, bytes_named, index_at, section_at, relocated_at}
+use Rattle.btf_relocate_model.specs.declared.report.Report.{Report}
+use Rattle.btf_loader_model.specs.Loader.{Outcomes, AreRelocationSections, bytes_named, index_at, left_at, section_at, relocated_at}
 
 -- The reasons for which an object is not relocated, apart from allocation failure.
 pub data Reason : Type 0 where
@@ -46,16 +47,21 @@ shares_place sections index = option_map_or (shares_with (remove sections index)
 abbrev pub reason_when : Bool → Reason → Option Reason
 reason_when holds reason = if holds then Some reason else None
 
--- The first outcome that is an error, by its index, where the first outcome of the list has this index.
-abbrev pub bad_record : ℕ → ℕ → List (Result Patched RelocationError) → Option Reason
+-- the outcome of the record of an index, if it is an error
+abbrev pub bad_outcome_of : ℕ → ℕ → Result Patched RelocationError → Option Reason
+bad_outcome_of name_offset index (Ok patched) = None
+bad_outcome_of name_offset index (Err error) = Some (BadRecord name_offset index error)
+
+-- The first outcome that is an error, by its index, where the first record of the list has this index.
+abbrev pub bad_record : ℕ → ℕ → List Report → Option Reason
 bad_record name_offset index [] = None
-bad_record name_offset index (Ok patched ∷ rest) = bad_record name_offset (index + 1) rest
-bad_record name_offset index (Err error ∷ rest) = Some (BadRecord name_offset index error)
+bad_record name_offset index (r ∷ rest) =
+    option_or (bad_outcome_of name_offset index r.outcome) (bad_record name_offset (index + 1) rest)
 
 -- the first record of a section that has an error
 abbrev pub bad_outcome : ℕ → Outcomes → Option Reason
 bad_outcome name_offset None = None
-bad_outcome name_offset (Some outcomes) = bad_record name_offset 0 outcomes
+bad_outcome name_offset (Some reports) = bad_record name_offset 0 reports
 
 -- the place of the section of an index is shared
 abbrev pub shared_place : Object → ℕ → Option Reason
@@ -69,17 +75,26 @@ section_reason g refuses_errors o name_offset outcomes =
     (option_or (option_and_then (shared_place o) (index_at g o name_offset))
     (if refuses_errors then bad_outcome name_offset outcomes else None))
 
--- Why a section of records is refused, when the file is this one.
-abbrev pub records_reason : KernelSetting → Bool → Bool → Object → List ℕ → ℕ × List (List ℕ) → Option Reason
-records_reason g is_shared refuses_errors o file s =
-    section_reason g refuses_errors o s.0 (relocated_at g is_shared (section_at g o s.0) file s.1).0
+-- Why a section of records is refused, when the file is this one, and these candidates are left.
+abbrev pub records_reason : KernelSetting → Bool → Bool → Object → (ℕ → Candidates) → List ℕ → ℕ × List (List ℕ)
+    → Option Reason
+records_reason g is_shared refuses_errors o left file s =
+    section_reason g refuses_errors o s.0 (relocated_at g is_shared left (section_at g o s.0) file s.1).0
 
 -- Why the first section of records that is refused is refused. The file is relocated for each section in turn.
+abbrev pub reason_from : KernelSetting → Bool → Bool → Object → (ℕ → Candidates) → List ℕ
+    → List (ℕ × List (List ℕ)) → Option Reason
+reason_from g is_shared refuses_errors o left file [] = None
+reason_from g is_shared refuses_errors o left file (s ∷ rest) =
+    let at = section_at g o s.0 in
+    option_or (records_reason g is_shared refuses_errors o left file s)
+    (reason_from g is_shared refuses_errors o (left_at g is_shared left at s.1)
+    (relocated_at g is_shared left at file s.1).1 rest)
+
+-- The same from the start.
 abbrev pub sections_reason : KernelSetting → Bool → Bool → Object → List ℕ → List (ℕ × List (List ℕ)) → Option Reason
-sections_reason g is_shared refuses_errors o file [] = None
-sections_reason g is_shared refuses_errors o file (s ∷ rest) =
-    option_or (records_reason g is_shared refuses_errors o file s)
-    (sections_reason g is_shared refuses_errors o (relocated_at g is_shared (section_at g o s.0) file s.1).1 rest)
+sections_reason g is_shared refuses_errors o file sections =
+    reason_from g is_shared refuses_errors o (all_candidates g) file sections
 
 -- ---- the object
 

@@ -7,8 +7,8 @@ ghost use Rattle.btf_loader_model.specs.Laws.{SectionsInTurn};
 ghost use Rattle.btf_loader_model.specs.Prepared.{RelocatedCodeStays};
 ghost use Rattle.btf_loader_model.specs.Refused.{ReasonIsDetermined};
 
-/// The sections of records are relocated in turn: those after a part of the list continue with the file that the part
-/// leaves. So a section of code that is named twice continues with the patched code.
+/// The sections of records are relocated in turn: those after a part of the list continue with the candidates and the
+/// file that the part leaves. So a section of code that is named twice continues with the patched code.
 pub fn sections_in_turn()
     ensures { SectionsInTurn }
 {}

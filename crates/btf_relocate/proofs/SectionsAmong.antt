@@ -1,30 +1,33 @@
 -- The records of a section, one after another, for a kernel with modules.
-use Rattle.std.proofs.Common.{◌≡◌, ℕ, ◌+◌, List, [], ◌∷◌, ◌++◌, drop, Bool, true, false, Result, Ok, Err, refl, sym, ap, subst, ◌∙◌, inl, inr, append_assoc}
+use Rattle.std.proofs.Common.{◌≡◌, ℕ, ◌+◌, List, [], ◌∷◌, ◌++◌, drop, map, Bool, true, false, Option, Result, Ok, Err, refl, sym, ap, subst, ◌∙◌, inl, inr, append_assoc}
 use Rattle.std.proofs.Math.Path.{fun_ext}
-use Rattle.std.specs.Prelude.{cond, if◌then◌else◌, Some}
+use Rattle.std.specs.Prelude.{cond, if◌then◌else◌, Some, None, IfOk}
+use Rattle.std.specs.Global.{Vec}
 use Rattle.std.specs.BTreeMap.{BTreeMap, get, is_at, IsEmpty}
 use Rattle.std.specs.Cmp.{unsigned_tied}
 use Rattle.std.specs.Map.{lookup}
 use Rattle.std.specs.Ordering.{nat_cmp}
-use Rattle.std.specs.Result.{IsErrAnd}
 use Rattle.std.proofs.lemmas.List.{append-nil}
 use Rattle.btf_model.specs.Table.{Table}
+use Rattle.btf_relocate_model.proofs.Reports.{reports_have_outcomes}
 use Rattle.btf_relocate_model.specs.Instruction.{patched_code}
 use Rattle.btf_relocate_model.specs.Modules as model
-use Rattle.btf_relocate_model.specs.Modules.{candidates_among, relocated_section_among, resolution_among}
+use Rattle.btf_relocate_model.specs.Modules.{candidates_among, first_matched, left_after_section, relocated_section_among, reported_section, resolution_among}
 use Rattle.btf_relocate_model.specs.Resolution.{type_word, instruction_word}
-use Rattle.btf_relocate_model.specs.Section.{patched_outcome, code_after, candidates_after, changed_at, patch_in, then_outcomes, relocated_by}
+use Rattle.btf_relocate_model.specs.Section.{patched_outcome, code_after, candidates_after, changed_at, left_after_all, matched_by, patch_in, relocated_by, report_of, reported_by, then_reports}
 use Rattle.btf_relocate_model.specs.declared.error.RelocationError.{RelocationError}
 use Rattle.btf_relocate_model.specs.declared.instruction.Patched.{Patched}
+use Rattle.btf_relocate_model.specs.declared.report.Matched.{Matched}
+use Rattle.btf_relocate_model.specs.declared.report.Report.{Report}
 use Rattle.btf_relocate_model.specs.declared.resolved.Resolved.{Resolved}
-use Rattle.btf_relocate.specs.Modules.{HasResolvedAmong, candidates_view}
+use Rattle.btf_relocate.specs.Modules.{HasResolvedAmong, candidates_view, targets_view}
 use Rattle.btf_relocate.specs.Patch.{HasPatched}
 use Rattle.btf_relocate.specs.Sections.{HasOthers, is_shared, left_with}
-use Rattle.btf_relocate.specs.SectionsAmong.{RelocatedAmong, left_among, view_or}
+use Rattle.btf_relocate.specs.SectionsAmong.{PatchedAmong, ReportedAmong, left_among, setting_among, view_or}
 use Rattle.btf_relocate.specs.declared.modules.Candidates.{Candidates}
+use Rattle.btf_relocate.specs.declared.modules.Targets.{Targets}
 use Rattle.btf_relocate.specs.declared.section.CandidatePolicy.{CandidatePolicy}
 use Rattle.btf_relocate.specs.declared.section.CandidatePolicy.TheVariants.{Shared, Fresh}
-use Rattle.btf_relocate.proofs.Compatibles.{from_err}
 use Rattle.btf_relocate.proofs.Sections.{is_out_of_memory}
 
 -- under `Shared` the type has these candidates, and the other types have theirs
@@ -36,29 +39,28 @@ module _ (local : Table) (ts : model.Targets) (words : List ℕ) (before after :
   abbrev Resolves : Result Resolved RelocationError → Type 0
   Resolves r = HasResolvedAmong candidates_view before after (resolution_among local ts (candidates_view before) words) r
 
-  by_error : (e : RelocationError) → Resolves (Err e) → RelocatedAmong local ts words before after old old (Err e)
-  by_error e (inl memory, kept) = inl (ap (λ (x : RelocationError). let r : Result Patched RelocationError = Err x in r) memory)
-  by_error e (inr same, kept) = inr (
+  -- a record that cannot be resolved
+  pub not_resolved : (e : RelocationError) → Resolves (Err e) → PatchedAmong local ts words before after old old (Err e) None
+  not_resolved e (inl memory, kept) = inl (ap (λ (x : RelocationError). let r : Result Patched RelocationError = Err x in r) memory)
+  not_resolved e (inr same, kept) = inr (
     kept ∙ sym (ap (candidates_after (candidates_view before)) same),
     sym (ap (λ (x : Result (Resolved × model.Candidates) RelocationError). patched_outcome (patch_in local.order old words x)) same),
+    sym (ap (matched_by first_matched) same),
     sym (ap (λ (x : Result (Resolved × model.Candidates) RelocationError). code_after old (patch_in local.order old words x)) same),
   )
 
-  -- a record that cannot be resolved
-  pub not_resolved : (o : Result Patched RelocationError) (e : RelocationError) → IsErrAnd o (λ x. x ≡ e) → Resolves (Err e) → RelocatedAmong local ts words before after old old o
-  not_resolved o e same known = subst (λ (x : Result Patched RelocationError). RelocatedAmong local ts words before after old old x) (sym (from_err o e same)) (by_error e known)
-
   -- a record that is resolved, and then patched
-  pub patched_as : (new : List ℕ) (o : Result Patched RelocationError) (r : Resolved) → Resolves (Ok r) → HasPatched old new (patched_code local.order r old (instruction_word words)) o → RelocatedAmong local ts words before after old new o
-  patched_as new (Ok p) r known is =
+  pub patched_as : (new : List ℕ) (o : Result Patched RelocationError) (r : Resolved) (m : Option Matched) → Resolves (Ok r) → HasPatched old new (patched_code local.order r old (instruction_word words)) o
+      → m ≡ (if r.is_matched then first_matched (candidates_view after) else None) → PatchedAmong local ts words before after old new o m
+  patched_as new (Ok p) r m known is first =
       let patch = ap (patch_in local.order old words) known ∙ is in
-      inr (sym (ap (candidates_after (candidates_view before)) known), sym (ap patched_outcome patch), sym (ap (code_after old) patch))
-  patched_as new (Err e) r known is =
+      inr (sym (ap (candidates_after (candidates_view before)) known), sym (ap patched_outcome patch), first ∙ sym (ap (matched_by first_matched) known), sym (ap (code_after old) patch))
+  patched_as new (Err e) r m known is first =
       let patch = ap (patch_in local.order old words) known ∙ is.0 in
-      inr (sym (ap (candidates_after (candidates_view before)) known), sym (ap patched_outcome patch), is.1 ∙ sym (ap (code_after old) patch))
+      inr (sym (ap (candidates_after (candidates_view before)) known), sym (ap patched_outcome patch), first ∙ sym (ap (matched_by first_matched) known), is.1 ∙ sym (ap (code_after old) patch))
 
 -- the candidates of each type before the first record
-no_lists : (policy : CandidatePolicy) (local : Table) (ts : model.Targets) (m : BTreeMap ℕ Candidates) → IsEmpty m → left_among policy local ts m ≡ candidates_among local ts
+pub no_lists : (policy : CandidatePolicy) (local : Table) (ts : model.Targets) (m : BTreeMap ℕ Candidates) → IsEmpty m → left_among policy local ts m ≡ candidates_among local ts
 no_lists Shared local ts m empty = fun_ext (λ (q : ℕ). ap (λ es. view_or (candidates_among local ts q) (lookup (is_at (nat_cmp q)) es)) empty)
 no_lists Fresh local ts m empty = fun_ext (λ (q : ℕ). refl)
 
@@ -76,53 +78,110 @@ lists_after Shared local ts id v m taken n others put = fun_ext (λ (q : ℕ). a
         ∙ sym (ap (λ (c : Bool). if c then candidates_view v else left_among Shared local ts m q) (sym (unsigned_tied id q) ∙ is))
 lists_after Fresh local ts id v m taken n others put = fun_ext (λ (q : ℕ). refl)
 
--- the outcomes so far, before those of the others
-abbrev after_these : List (Result Patched RelocationError) → List (Result Patched RelocationError) × List ℕ → List (Result Patched RelocationError) × List ℕ
+-- the reports so far, before those of the others
+abbrev pub after_these : List Report → List Report × List ℕ → List Report × List ℕ
 after_these so_far rest = (so_far ++ rest.0, rest.1)
 
 module _ (policy : CandidatePolicy) (local : Table) (ts : model.Targets) where
-  abbrev of_rest : (ℕ → model.Candidates) → List ℕ → List (List ℕ) → List (Result Patched RelocationError) × List ℕ
-  of_rest left code records = relocated_by local.order (resolution_among local ts) (is_shared policy) left code records
+  abbrev resolve : model.Candidates → List ℕ → Result (Resolved × model.Candidates) RelocationError
+  resolve c words = resolution_among local ts c words
 
-  -- the outcomes so far complete the outcomes of the others
-  abbrev pub Continues : List ℕ → List (List ℕ) → List (Result Patched RelocationError) → BTreeMap ℕ Candidates → List ℕ → List (List ℕ) → Type 0
-  Continues start all before m code records = after_these before (of_rest (left_among policy local ts m) code records) ≡ relocated_section_among local ts (is_shared policy) start all
+  abbrev of_rest : (ℕ → model.Candidates) → List ℕ → List (List ℕ) → List Report × List ℕ
+  of_rest left code records = reported_by first_matched local.order (resolution_among local ts) (is_shared policy) left code records
 
-  pub begins : (start : List ℕ) (all : List (List ℕ)) (before : List (Result Patched RelocationError)) (m : BTreeMap ℕ Candidates) → before ≡ [] → IsEmpty m → Continues start all before m start all
-  begins start all before m none empty =
-      ap (λ (os : List (Result Patched RelocationError)). after_these os (of_rest (left_among policy local ts m) start all)) none
-      ∙ ap (λ (left : ℕ → model.Candidates). of_rest left start all) (no_lists policy local ts m empty)
+  abbrev left_of : (ℕ → model.Candidates) → List (List ℕ) → ℕ → model.Candidates
+  left_of left records = left_after_all (resolution_among local ts) (is_shared policy) left records
 
-  -- one more record
-  one_more : (left : ℕ → model.Candidates) (words : List ℕ) (c v : Candidates) (code new : List ℕ) (o : Result Patched RelocationError) (records : List (List ℕ))
-      → candidates_view c ≡ left (type_word words) → RelocatedAmong local ts words c v code new o → is_out_of_memory o ≡ false
-      → then_outcomes o (of_rest (left_with (is_shared policy) (type_word words) (candidates_view v) left) new records) ≡ of_rest left code (words ∷ records)
-  one_more left words c v code new o records own (inl memory) not_memory = absurd (let wrong : true ≡ false = ap is_out_of_memory (sym memory) ∙ not_memory in cc)
-  one_more left words c v code new o records own (inr done) not_memory =
-      let id = type_word words in
-      let shares = is_shared policy in
-      let r : model.Candidates → Result (Resolved × model.Candidates) RelocationError = λ x. resolution_among local ts x words in
-      let p : model.Candidates → Result (Patched × List ℕ) RelocationError = λ x. patch_in local.order code words (r x) in
-      ap (λ (x : model.Candidates). then_outcomes o (of_rest (left_with shares id x left) new records)) done.0
-      ∙ ap (λ (x : Result Patched RelocationError). then_outcomes x (of_rest (left_with shares id (candidates_after (candidates_view c) (r (candidates_view c))) left) new records)) done.1
-      ∙ ap (λ (x : List ℕ). then_outcomes (patched_outcome (p (candidates_view c))) (of_rest (left_with shares id (candidates_after (candidates_view c) (r (candidates_view c))) left) x records)) done.2
-      ∙ ap (λ (x : model.Candidates). then_outcomes (patched_outcome (p x)) (of_rest (left_with shares id (candidates_after x (r x)) left) (code_after code (p x)) records)) own
+  -- the reports so far complete the reports of the others, and so do the candidates that are left
+  pub record Continues (old : BTreeMap ℕ Candidates) (start : List ℕ) (all : List (List ℕ)) (before : List Report) (m : BTreeMap ℕ Candidates) (code : List ℕ) (records : List (List ℕ)) : Type 0 where
+    pub reports : after_these before (of_rest (left_among policy local ts m) code records) ≡ of_rest (left_among policy local ts old) start all
+    pub lists : left_of (left_among policy local ts m) records ≡ left_of (left_among policy local ts old) all
 
-  pub continues : (start : List ℕ) (all : List (List ℕ)) (before more : List (Result Patched RelocationError)) (words : List ℕ) (c v : Candidates) (m taken n : BTreeMap ℕ Candidates) (code new : List ℕ) (o : Result Patched RelocationError) (i : ℕ)
-      → Continues start all before m code (drop i all) → drop i all ≡ words ∷ drop (i + 1) all → more ≡ before ++ o ∷ []
+  pub begins : (old : BTreeMap ℕ Candidates) (start : List ℕ) (all : List (List ℕ)) (before : List Report) → before ≡ [] → Continues old start all before old start all
+  begins old start all before none = record {
+    reports = ap (λ (rs : List Report). after_these rs (of_rest (left_among policy local ts old) start all)) none;
+    lists = refl;
+  }
+
+  -- what the definition has after one record
+  module _ (left : ℕ → model.Candidates) (words : List ℕ) (c v : Candidates) (code new : List ℕ) (o : Report) (own : candidates_view c ≡ left (type_word words))
+      (done : ReportedAmong local ts words c v code new o) (not_memory : is_out_of_memory o.outcome ≡ false) where
+    abbrev id : ℕ
+    id = type_word words
+
+    abbrev shares : Bool
+    shares = is_shared policy
+
+    abbrev r : model.Candidates → Result (Resolved × model.Candidates) RelocationError
+    r x = resolution_among local ts x words
+
+    abbrev p : model.Candidates → Result (Patched × List ℕ) RelocationError
+    p x = patch_in local.order code words (r x)
+
+    abbrev said : model.Candidates → Report
+    said x = report_of local.order code words (matched_by first_matched (r x)) (p x)
+
+    -- what was done
+    abbrev Done : Type 0
+    Done = (candidates_view v ≡ candidates_after (candidates_view c) (r (candidates_view c))) × (o ≡ said (candidates_view c)) × (new ≡ code_after code (p (candidates_view c)))
+
+    is_done : Done
+    is_done = by_case done
+      where
+        by_case : ReportedAmong local ts words c v code new o → Done
+        by_case (inl memory) = absurd (let wrong : true ≡ false = ap is_out_of_memory (sym memory) ∙ not_memory in cc)
+        by_case (inr all) = all
+
+    same_left : left_with shares id (candidates_view v) left ≡ left_with shares id (candidates_after (left id) (r (left id))) left
+    same_left =
+        ap (λ (x : model.Candidates). left_with shares id x left) is_done.0
+        ∙ ap (λ (x : model.Candidates). left_with shares id (candidates_after x (r x)) left) own
+
+    one_report : (records : List (List ℕ)) → then_reports o (of_rest (left_with shares id (candidates_view v) left) new records) ≡ of_rest left code (words ∷ records)
+    one_report records =
+        ap (λ (l : ℕ → model.Candidates). then_reports o (of_rest l new records)) same_left
+        ∙ ap (λ (x : Report). then_reports x (of_rest (left_with shares id (candidates_after (left id) (r (left id))) left) new records)) (is_done.1 ∙ ap said own)
+        ∙ ap (λ (x : List ℕ). then_reports (said (left id)) (of_rest (left_with shares id (candidates_after (left id) (r (left id))) left) x records)) (is_done.2 ∙ ap (λ (x : model.Candidates). code_after code (p x)) own)
+
+    one_list : (records : List (List ℕ)) → left_of (left_with shares id (candidates_view v) left) records ≡ left_of left (words ∷ records)
+    one_list records = ap (λ (l : ℕ → model.Candidates). left_of l records) same_left
+
+  pub continues : (old : BTreeMap ℕ Candidates) (start : List ℕ) (all : List (List ℕ)) (before more : List Report) (words : List ℕ) (c v : Candidates) (m taken n : BTreeMap ℕ Candidates) (code new : List ℕ) (o : Report) (i : ℕ)
+      → Continues old start all before m code (drop i all) → drop i all ≡ words ∷ drop (i + 1) all → more ≡ before ++ o ∷ []
       → candidates_view c ≡ left_among policy local ts m (type_word words) → HasOthers (type_word words) m taken → HasLeft policy (type_word words) v taken n
-      → RelocatedAmong local ts words c v code new o → is_out_of_memory o ≡ false → Continues start all more n new (drop (i + 1) all)
-  continues start all before more words c v m taken n code new o i sofar here pushed own others put done not_memory =
-      let later : List (Result Patched RelocationError) × List ℕ = of_rest (left_among policy local ts n) new (drop (i + 1) all) in
-      let lists = lists_after policy local ts (type_word words) v m taken n others put in
-      ap (λ (os : List (Result Patched RelocationError)). after_these os later) pushed
-      ∙ ap (λ (os : List (Result Patched RelocationError)). (os, later.1)) (append_assoc before (o ∷ []) later.0)
-      ∙ ap (λ (left : ℕ → model.Candidates). after_these before (then_outcomes o (of_rest left new (drop (i + 1) all)))) lists
-      ∙ ap (after_these before) (one_more (left_among policy local ts m) words c v code new o (drop (i + 1) all) own done not_memory)
-      ∙ ap (λ (rs : List (List ℕ)). after_these before (of_rest (left_among policy local ts m) code rs)) (sym here) ∙ sofar
+      → ReportedAmong local ts words c v code new o → is_out_of_memory o.outcome ≡ false → Continues old start all more n new (drop (i + 1) all)
+  continues old start all before more words c v m taken n code new o i sofar here pushed own others put done not_memory =
+      let rest : List (List ℕ) = drop (i + 1) all in
+      let left : ℕ → model.Candidates = left_among policy local ts m in
+      let later : List Report × List ℕ = of_rest (left_among policy local ts n) new rest in
+      let lists : left_among policy local ts n ≡ left_with (is_shared policy) (type_word words) (candidates_view v) left = lists_after policy local ts (type_word words) v m taken n others put in
+      record {
+        reports = ap (λ (rs : List Report). after_these rs later) pushed
+            ∙ ap (λ (rs : List Report). (rs, later.1)) (append_assoc before (o ∷ []) later.0)
+            ∙ ap (λ (l : ℕ → model.Candidates). after_these before (then_reports o (of_rest l new rest))) lists
+            ∙ ap (after_these before) (one_report left words c v code new o own done not_memory rest)
+            ∙ ap (λ (rs : List (List ℕ)). after_these before (of_rest left code rs)) (sym here) ∙ sofar.reports;
+        lists = ap (λ (l : ℕ → model.Candidates). left_of l rest) lists ∙ one_list left words c v code new o own done not_memory rest
+            ∙ ap (λ (rs : List (List ℕ)). left_of left rs) (sym here) ∙ sofar.lists;
+      }
 
-  pub all_done : (start : List ℕ) (all : List (List ℕ)) (before : List (Result Patched RelocationError)) (m : BTreeMap ℕ Candidates) (code : List ℕ) (rest : List (List ℕ))
-      → Continues start all before m code rest → rest ≡ [] → (before, code) ≡ relocated_section_among local ts (is_shared policy) start all
-  all_done start all before m code rest sofar none =
-      ap (λ (os : List (Result Patched RelocationError)). (os, code)) (sym (append-nil before))
-      ∙ ap (λ (rs : List (List ℕ)). after_these before (of_rest (left_among policy local ts m) code rs)) (sym none) ∙ sofar
+  pub all_done : (old : BTreeMap ℕ Candidates) (start : List ℕ) (all : List (List ℕ)) (before : List Report) (m : BTreeMap ℕ Candidates) (code : List ℕ) (rest : List (List ℕ))
+      → Continues old start all before m code rest → rest ≡ []
+      → ((before, code) ≡ of_rest (left_among policy local ts old) start all) × (left_among policy local ts m ≡ left_of (left_among policy local ts old) all)
+  all_done old start all before m code rest sofar none = (
+    ap (λ (rs : List Report). (rs, code)) (sym (append-nil before))
+        ∙ ap (λ (rs : List (List ℕ)). after_these before (of_rest (left_among policy local ts m) code rs)) (sym none) ∙ sofar.reports,
+    ap (λ (rs : List (List ℕ)). left_of (left_among policy local ts m) rs) (sym none) ∙ sofar.lists,
+  )
+
+-- the outcomes in the reports of the records of a section, from all candidates on
+pub all_outcomes : {E : Type 0} (policy : CandidatePolicy) (local : Table) (targets : Targets) (start new : List ℕ) (all : List (List ℕ)) (reports : List Report) (left : ℕ → model.Candidates)
+    → left ≡ model.all_candidates (setting_among local targets) → (reports, new) ≡ reported_section (setting_among local targets) (is_shared policy) left start all → (seen : List Report) → seen ≡ reports
+    → (r : Result (Vec (Result Patched RelocationError)) E) → IfOk r (λ v. v.items ≡ map (λ (x : Report). x.outcome) seen)
+    → IfOk r (λ v. (v.items, new) ≡ relocated_section_among local (targets_view targets) (is_shared policy) start all)
+all_outcomes policy local targets start new all reports left every said seen same (Err e) are = are
+all_outcomes policy local targets start new all reports left every said seen same (Ok v) are =
+    let g = setting_among local targets in
+    ap (λ (os : List (Result Patched RelocationError)). (os, new)) (are ∙ ap (map (λ (x : Report). x.outcome)) same)
+    ∙ ap (λ (x : List Report × List ℕ). (map (λ (r : Report). r.outcome) x.0, x.1)) (said ∙ ap (λ (l : ℕ → model.Candidates). reported_section g (is_shared policy) l start all) every)
+    ∙ reports_have_outcomes g (is_shared policy) (model.all_candidates g) start all

@@ -15,6 +15,9 @@ const SLOT_LEN: usize = 8;
 /// The opcode of the load of a 64-bit immediate.
 const LD_IMM64: u8 = 0x18;
 
+/// The three low bits of the opcode of an arithmetic instruction of 64 bits, which sign-extends its immediate.
+const ALU64: u8 = 7;
+
 /// The slot that the kernel refuses if a program can reach it: a call of the helper 0xbad2310.
 const POISON: Slot = Slot {
     opcode: 0x85,
@@ -38,8 +41,8 @@ const POISON: Slot = Slot {
 /// - `NotPatchable` for a jump or a call, and `BadLdImm64` for a load of another form than that of a 64-bit immediate.
 /// - `NotImmediate` for an arithmetic instruction whose source is a register.
 /// - `WrongImmediate` if the field must have the expected value, and has another one.
-/// - `ImmediateOverflow` for an arithmetic instruction, if the value is neither the zero-extension nor the
-///   sign-extension of 32 bits. libbpf cuts the value.
+/// - `ImmediateOverflow` for an arithmetic instruction, if the value is not the sign-extension of 32 bits, nor, in an
+///   instruction of 32 bits, their zero-extension. libbpf cuts the value.
 /// - `OffsetTooBig` for a load or store, if the value exceeds 32767.
 /// - `WrongAccessSize` if a load or store has another size than the local field, `BadAccessSize` if the target's field
 ///   has none of the sizes 1, 2, 4 and 8; both only if these sizes differ.
@@ -82,8 +85,9 @@ fn slot_at(code: &[u8], at: usize, order: Endianness) -> Slot
     }
 }
 
-/// The instruction at a place.
-fn instruction_at(code: &[u8], at: usize, order: Endianness) -> Result<Instruction, RelocationError>
+/// The instruction at an offset of a section's code, in bytes. Errors: `Misaligned`, `NoInstruction` and `NoSecondSlot`,
+/// as of [`patch`].
+pub fn instruction_at(code: &[u8], at: usize, order: Endianness) -> Result<Instruction, RelocationError>
     ensures value { result ≡ model.instruction_at order code.now at }
     ensures room { IfOk result
         (λ i. at + length (model.instruction_bytes order i) ≤ length code.now) }
@@ -137,7 +141,8 @@ fn patch_immediate(resolved: &Resolved, slot: Slot) -> Result<(Patched, Slot), R
         return Err(RelocationError::WrongImmediate);
     }
     let immediate = (resolved.value % 0x1_0000_0000) as u32;
-    if resolved.value >= 0x1_0000_0000 && sign_extended_32(immediate) != resolved.value {
+    let is_extended = slot.opcode % 8 == ALU64 || resolved.value >= 0x1_0000_0000;
+    if is_extended && sign_extended_32(immediate) != resolved.value {
         return Err(RelocationError::ImmediateOverflow);
     }
     Ok((Patched::Written, Slot { immediate, ..slot }))

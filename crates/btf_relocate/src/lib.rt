@@ -22,13 +22,14 @@ mod value;
 
 pub use access::Access;
 pub use btf_relocate_model::{
-    Field, Instruction, Patched, RelocationError, RelocationKind, Resolved, Slot,
+    Field, Instruction, Matched, Patched, RelocationError, RelocationKind, Report, Resolved, Slot,
 };
-pub use instruction::patch;
+pub use instruction::{instruction_at, patch};
 pub use modules::{Candidates, InModule, Targets, candidates_among, resolve_among};
 pub use name::essential_name;
 pub use resolving::resolve;
 pub use section::{
-    CandidatePolicy, Outcome, candidates_of, relocate_section, relocate_section_among,
+    CandidatePolicy, LeftCandidates, Outcome, candidates_of, relocate_records, relocate_section,
+    relocate_section_among,
 };
 pub use target::{Target, TargetIndex};

@@ -3,7 +3,7 @@
 //! A type that the kernel's table does not have may be in the tables of modules. The tables of modules are searched
 //! only if the kernel's table has no candidate. All candidates of all modules must then have the same value.
 
-ghost use Rattle.std.specs.Prelude.{◌≡◌, map, None, IfOk};
+ghost use Rattle.std.specs.Prelude.{◌≡◌, ◌+◌, ◌<◌, ◌∷◌, drop, length, map, None, IfOk};
 ghost use Rattle.btf_relocate_model.specs.Modules as model;
 ghost use Rattle.btf_relocate.specs.Gives.{GivesBy};
 ghost use Rattle.btf_relocate.specs.Modules.{ResolvesAmong, ResolvesInModules, answer_in_table, answers_view, candidates_view, found_view, targets_view};
@@ -14,7 +14,7 @@ use crate::resolving::{
 };
 use crate::section::candidates_of;
 use crate::target::Target;
-use btf_relocate_model::{Answer, RelocationError, RelocationKind, Resolved};
+use btf_relocate_model::{Answer, Matched, RelocationError, RelocationKind, Resolved};
 use btf_table::Btf;
 use std::alloc::{AllocError, Global};
 
@@ -44,6 +44,50 @@ pub enum Candidates<'a, 't> {
     InKernel(Vec<u32>),
     /// All are in the tables of modules.
     InModules(Vec<InModule<'a, 't>>),
+}
+
+impl Candidates<'_, '_> {
+    /// The first candidate.
+    pub fn first(&self) -> Option<Matched>
+        ensures { result ≡ model.first_matched (candidates_view self.now) }
+    {
+        match self {
+            Candidates::InKernel(ids) => first_id(None, ids.as_slice()),
+            Candidates::InModules(found) => first_in_modules(found.as_slice()),
+        }
+    }
+}
+
+/// The first of these ids, in the kernel's table or in that of the module of an index.
+fn first_id(module_index: Option<usize>, ids: &[u32]) -> Option<Matched>
+    ensures { result ≡ model.first_id module_index ids.now }
+{
+    let type_id = *ids.first()?;
+    Some(Matched {
+        module_index,
+        type_id,
+    })
+}
+
+/// The candidates in the table of the module of an index.
+fn found_at<'f, 'a, 't>(found: &'f [InModule<'a, 't>], index: usize) -> &'f InModule<'a, 't>
+    requires { index < length found.now }
+    ensures { drop index found.now ≡ result.now ∷ drop (index + 1) found.now }
+{
+    &found[index]
+}
+
+/// The first of the candidates in the tables of all modules.
+fn first_in_modules(found: &[InModule<'_, '_>]) -> Option<Matched>
+    ensures { result ≡ model.first_in_modules 0 (map found_view found.now) }
+{
+    for index in 0..found.len() {
+        let first = first_id(Some(index), found_at(found, index).ids.as_slice());
+        if first.is_some() {
+            return first;
+        }
+    }
+    None
 }
 
 /// The candidates of a type of the program's table, for [`resolve_among`]; none if the id has no type. The tables of

@@ -284,6 +284,7 @@ pub fn resolve_by(
         return Resolved {
             expected: expected.value,
             value: answer.value.value,
+            is_matched: true,
             is_poisoned: false,
             validates,
             local_size: expected.size,
@@ -294,6 +295,7 @@ pub fn resolve_by(
     let missing = Resolved {
         expected: expected.value,
         value: 0,
+        is_matched: false,
         is_poisoned: false,
         validates,
         local_size: expected.size,
@@ -322,6 +324,7 @@ pub fn local_id(type_id: u32) -> Resolved
     Resolved {
         expected: u64::from(type_id),
         value: u64::from(type_id),
+        is_matched: false,
         is_poisoned: false,
         validates: false,
         local_size: 0,

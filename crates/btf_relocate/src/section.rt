@@ -1,17 +1,19 @@
 //! The records of a section.
 
-ghost use Rattle.std.specs.Prelude.{◌≡◌, IfOk};
+ghost use Rattle.std.specs.Prelude.{◌≡◌, map, if◌then◌else◌, None, IfOk, OnOk};
+ghost use Rattle.btf_relocate_model.specs.Modules.{first_matched, left_after_section, reported_section};
 ghost use Rattle.btf_relocate_model.specs.Resolution.{type_word};
 ghost use Rattle.btf_relocate_model.specs.Section.{candidates_of, relocated_section};
+ghost use Rattle.btf_relocate_model.specs.declared.report.Report.{Report as Said};
 ghost use Rattle.btf_relocate.specs.Modules.{candidates_view, targets_view};
 ghost use Rattle.btf_relocate.specs.Sections.{HasOthers, RelocatesSection, is_shared, setting};
-ghost use Rattle.btf_relocate.specs.SectionsAmong.{RelocatedAmong, left_among, relocated_among};
+ghost use Rattle.btf_relocate.specs.SectionsAmong.{LeavesAll, PatchedAmong, ReportedAmong, candidates_left, left_among, relocated_among, setting_among};
 
-use crate::instruction::patch;
+use crate::instruction::{instruction_at, patch};
 use crate::lookup::{name_or_none, type_at};
 use crate::modules::{Candidates, Targets, candidates_among, resolve_among};
 use crate::target::Target;
-use btf_relocate_model::{Patched, RelocationError};
+use btf_relocate_model::{Matched, Patched, RelocationError, Report, Resolved};
 use btf_table::Btf;
 use std::alloc::{AllocError, Global};
 use std::collections::BTreeMap;
@@ -72,20 +74,75 @@ pub fn relocate_section_among<'a, 't>(
     ensures { IfOk result (λ v. (v.items, code.new)
         ≡ relocated_among policy local.now targets.now code.old records.now) }
 {
-    let mut outcomes = Vec::with_capacity(alloc, records.len())?;
-    let mut shared: BTreeMap<u32, Candidates<'a, 't>> = BTreeMap::new(alloc);
-    for record in records {
-        let mut candidates = candidates_for(alloc, local, targets, record, policy, &mut shared)?;
-        let outcome = relocate(alloc, local, targets, record, &mut candidates, code);
-        if let Err(RelocationError::OutOfMemory) = outcome {
-            return Err(AllocError);
-        }
-        outcomes.push(outcome)?;
-        if let CandidatePolicy::Shared = policy {
-            shared.insert(record[1], candidates)?;
-        }
+    let mut left = LeftCandidates::new(alloc);
+    let reports = relocate_records(alloc, local, targets, records, code, policy, &mut left)?;
+    outcomes_of(alloc, reports.as_slice())
+}
+
+/// The outcomes of these reports.
+fn outcomes_of(alloc: Global, reports: &[Report]) -> Result<Vec<Outcome>, AllocError>
+    ensures { IfOk result (λ v. v.items ≡ map (λ (r : Said). r.outcome) reports.now) }
+{
+    let mut outcomes = Vec::with_capacity(alloc, reports.len())?;
+    for report in reports {
+        outcomes.push(report.outcome)?;
     }
     Ok(outcomes)
+}
+
+/// The candidates that the records of a program have left so far, for each type of the program's table. The sections of
+/// one program share them, as in libbpf.
+#[derive(Drop)]
+pub struct LeftCandidates<'a, 't> {
+    /// The lists of the types that a record was about.
+    lists: BTreeMap<u32, Candidates<'a, 't>>,
+}
+
+impl<'a, 't> LeftCandidates<'a, 't> {
+    /// All candidates of each type, as before the first record.
+    pub fn new(alloc: Global) -> LeftCandidates<'a, 't>
+        ensures { LeavesAll result }
+    {
+        LeftCandidates {
+            lists: BTreeMap::new(alloc),
+        }
+    }
+}
+
+/// Relocates the code of one section of a program for a kernel with modules, as [`relocate_section_among`], and returns
+/// what was done for each record. `left` are the candidates that the sections before it have left.
+///
+/// `OutOfMemory` is the only error of the call, and may leave some instructions patched.
+pub fn relocate_records<'a, 't>(
+    alloc: Global,
+    local: &Btf,
+    targets: &Targets<'a, 't>,
+    records: &[[u32; 4]],
+    code: &mut [u8],
+    policy: CandidatePolicy,
+    left: &mut LeftCandidates<'a, 't>,
+) -> Result<Vec<Report>, AllocError>
+    ensures reported { IfOk result (λ v. (v.items, code.new)
+        ≡ reported_section (setting_among local.now targets.now) (is_shared policy)
+        (candidates_left policy local.now targets.now left.old) code.old records.now) }
+    ensures left { OnOk result (candidates_left policy local.now targets.now left.new
+        ≡ left_after_section (setting_among local.now targets.now) (is_shared policy)
+        (candidates_left policy local.now targets.now left.old) records.now) }
+{
+    let mut reports = Vec::with_capacity(alloc, records.len())?;
+    for record in records {
+        let shared = &mut left.lists;
+        let mut candidates = candidates_for(alloc, local, targets, record, policy, shared)?;
+        let report = relocate(alloc, local, targets, record, &mut candidates, code);
+        if let Err(RelocationError::OutOfMemory) = report.outcome {
+            return Err(AllocError);
+        }
+        reports.push(report)?;
+        if let CandidatePolicy::Shared = policy {
+            left.lists.insert(record[1], candidates)?;
+        }
+    }
+    Ok(reports)
 }
 
 /// The candidates for a record. Under [`CandidatePolicy::Shared`] they are taken from the lists that records before it
@@ -111,7 +168,7 @@ fn candidates_for<'a, 't>(
     }
 }
 
-/// Resolves a record and patches its instruction.
+/// Resolves a record and patches its instruction, and returns what was done.
 fn relocate(
     alloc: Global,
     local: &Btf,
@@ -119,12 +176,52 @@ fn relocate(
     record: &[u32; 4],
     candidates: &mut Candidates<'_, '_>,
     code: &mut [u8],
-) -> Outcome
-    ensures { RelocatedAmong local.now (targets_view targets.now) «record».now candidates.old
+) -> Report
+    ensures { ReportedAmong local.now (targets_view targets.now) «record».now candidates.old
         candidates.new code.old code.new result }
 {
-    let resolved = resolve_among(alloc, local, targets, record, candidates)?;
-    patch(code, record[0] as usize, local.endianness(), &resolved)
+    let (order, offset) = (local.endianness(), record[0] as usize);
+    let before = instruction_at(code, offset, order).ok();
+    let (outcome, matched) = resolve_and_patch(alloc, local, targets, record, candidates, code);
+    Report {
+        outcome,
+        matched,
+        before,
+        after: instruction_at(code, offset, order).ok(),
+    }
+}
+
+/// Resolves a record and patches its instruction. Returns the outcome, and the first type that matches.
+fn resolve_and_patch(
+    alloc: Global,
+    local: &Btf,
+    targets: &Targets<'_, '_>,
+    record: &[u32; 4],
+    candidates: &mut Candidates<'_, '_>,
+    code: &mut [u8],
+) -> (Outcome, Option<Matched>)
+    ensures { PatchedAmong local.now (targets_view targets.now) «record».now candidates.old
+        candidates.new code.old code.new result.0 result.1 }
+{
+    match resolve_among(alloc, local, targets, record, candidates) {
+        Ok(resolved) => {
+            let outcome = patch(code, record[0] as usize, local.endianness(), &resolved);
+            (outcome, first_matched(&resolved, candidates))
+        }
+        Err(error) => (Err(error), None),
+    }
+}
+
+/// The first of the candidates that a record has left, if one of them matches.
+fn first_matched(resolved: &Resolved, candidates: &Candidates<'_, '_>) -> Option<Matched>
+    ensures { result ≡ (if resolved.now.is_matched then first_matched (candidates_view candidates.now)
+        else None) }
+{
+    if resolved.is_matched {
+        candidates.first()
+    } else {
+        None
+    }
 }
 
 /// The candidates of a type of the program's table, in a list for [`resolve`](crate::resolve); none if the id has no

@@ -9,3 +9,4 @@ mod OwnTable
 mod PlainExample
 mod OwnSection
 pub mod Modules
+pub mod Reports

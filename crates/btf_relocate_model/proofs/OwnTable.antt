@@ -13,7 +13,7 @@ use Rattle.btf_model.specs.Word.{half, half_of, word}
 use Rattle.btf_model.specs.declared.endianness.Endianness.{Endianness}
 use Rattle.btf_relocate_model.proofs.Exchanges.{size, read_by}
 use Rattle.btf_relocate_model.proofs.OwnSubjects.{record_finds_itself}
-use Rattle.btf_relocate_model.proofs.Patches.{slot_class}
+use Rattle.btf_relocate_model.proofs.Patches.{arithmetic_by, slot_class}
 use Rattle.btf_relocate_model.specs.Candidates.{is_nameless}
 use Rattle.btf_relocate_model.specs.Instruction.{slot_at, slot_len, ld_imm64, slot_bytes, instruction_bytes, instruction_at, relocated, relocated_from, patched, patched_slot, patched_offset, patched_immediate, is_unexpected, sign_extended, wide_immediate, is_ld_imm64, narrow, fits_immediate, is_register_source, overwritten, written_back}
 use Rattle.btf_relocate_model.specs.Laws.{IsOwn, IsExpected, AreBytes, OwnTableGivesTheExpected, ExpectedKeepsTheCode, OwnTableKeepsTheCode}
@@ -137,14 +137,6 @@ memory_by false true same e f x z w kept is = absurd (cc)
 memory_by false false true e f x z w kept is = (refl, refl, sym (same_ok x z is))
 memory_by false false false e f x z w kept is = absurd (cc)
 
--- an arithmetic instruction
-arithmetic_by : (register unexpected big : Bool) (e f h : RelocationError) (x z : Patched × Slot)
-    → ◌≡◌ {A = Result (Patched × Slot) RelocationError} (if register then Err e else (if unexpected then Err f else (if big then Err h else Ok x))) (Ok z) → (unexpected ≡ false) × (z ≡ x)
-arithmetic_by true unexpected big e f h x z is = absurd (cc)
-arithmetic_by false true big e f h x z is = absurd (cc)
-arithmetic_by false false true e f h x z is = absurd (cc)
-arithmetic_by false false false e f h x z is = (refl, sym (same_ok x z is))
-
 -- the load of a 64-bit immediate
 wide_by : (bad unexpected : Bool) (e f : RelocationError) (x z : Patched × Instruction)
     → ◌≡◌ {A = Result (Patched × Instruction) RelocationError} (if bad then Err e else (if unexpected then Err f else Ok x)) (Ok z) → (unexpected ≡ false) × (z ≡ x)
@@ -167,7 +159,7 @@ offset_kept r s z kept is =
 
 immediate_kept : (r : Resolved) (s : Slot) (z : Patched × Slot) → IsKept r → s.immediate < 2 ^ 32 → patched_immediate r s ≡ Ok z → z ≡ (Written, s)
 immediate_kept r s z kept small is =
-    let one = arithmetic_by (is_register_source s) (is_unexpected r (sign_extended 32 s.immediate)) (not (fits_immediate r.value)) NotImmediate WrongImmediate ImmediateOverflow (Written, record s { immediate = r.value % 2 ^ 32 }) z is in
+    let one = arithmetic_by (is_register_source s) (is_unexpected r (sign_extended 32 s.immediate)) (not (fits_immediate s r.value)) NotImmediate WrongImmediate ImmediateOverflow (Written, record s { immediate = r.value % 2 ^ 32 }) z is in
     one.1 ∙ ap {B = Patched × Slot} (λ (n : ℕ). (Written, record s { immediate = n })) (small_immediate s.immediate r.value small (expected r (sign_extended 32 s.immediate) kept one.0))
 
 slot_kept : (r : Resolved) (s : Slot) (z : Patched × Slot) → IsKept r → s.immediate < 2 ^ 32 → patched_slot r s ≡ Ok z → z ≡ (Written, s)

@@ -3,10 +3,10 @@ use Rattle.std.proofs.Common.{◌≡◌, ◌≢◌, ℕ, ◌+◌, ◌-◌, ◌*�
 use Rattle.std.specs.Prelude.{◌⊎◌, ◌==◌, not, nat_lt, nat_le, ◌||◌, if◌then◌else◌}
 use Rattle.std.proofs.lemmas.Bool.Decides.{nat_tests}
 use Rattle.btf_model.specs.declared.endianness.Endianness.{Endianness}
-use Rattle.btf_relocate_model.specs.Instruction.{patched_immediate, patched_offset, patched_slot, patched_wide, patched, narrow, poison, poisoned, is_unexpected, access_size, is_ld_imm64, wide_immediate, sign_extended, width_bits, with_size}
-use Rattle.btf_relocate_model.specs.Laws.{SlotHas, SlotKeeps, HasValue, Keeps, WrittenReadsBack, WrittenKeepsTheRest, PoisonHasAReason}
+use Rattle.btf_relocate_model.specs.Instruction.{patched_immediate, patched_offset, patched_slot, patched_wide, patched, narrow, poison, poisoned, is_unexpected, access_size, is_ld_imm64, wide_immediate, sign_extended, width_bits, with_size, fits_immediate, is_register_source}
+use Rattle.btf_relocate_model.specs.Laws.{ImmediateHas, SlotHas, SlotKeeps, HasValue, Keeps, WrittenReadsBack, WrittenKeepsTheRest, PoisonHasAReason}
 use Rattle.btf_relocate_model.specs.declared.error.RelocationError.{RelocationError}
-use Rattle.btf_relocate_model.specs.declared.error.RelocationError.TheVariants.{WrongImmediate, OffsetTooBig, WrongAccessSize, BadLdImm64, NotPatchable}
+use Rattle.btf_relocate_model.specs.declared.error.RelocationError.TheVariants.{NotImmediate, WrongImmediate, ImmediateOverflow, OffsetTooBig, WrongAccessSize, BadLdImm64, NotPatchable}
 use Rattle.btf_relocate_model.specs.declared.instruction.Instruction.{Instruction}
 use Rattle.btf_relocate_model.specs.declared.instruction.Instruction.TheVariants.{Narrow, Wide}
 use Rattle.btf_relocate_model.specs.declared.instruction.Slot.{Slot}
@@ -65,11 +65,28 @@ pub offset_written : (r : Resolved) (s u : Slot) → patched_offset r s ≡ Ok (
 offset_written r s u is =
     elim (offset_result r s u is) [ inl same ↦ ap (λ (t : Slot). t.offset) same | inr other ↦ ap (λ (t : Slot). t.offset) other.2 ]
 
-pub immediate_written : (r : Resolved) (s u : Slot) → patched_immediate r s ≡ Ok (Written, u) → (u.immediate ≡ r.value) ⊎ (sign_extended 32 u.immediate ≡ r.value)
+pub immediate_written : (r : Resolved) (s u : Slot) → patched_immediate r s ≡ Ok (Written, u) → ImmediateHas r.value u
 immediate_written r s u is = grind (arith, nat_tests)
 
+-- an arithmetic instruction that is not refused
+pub arithmetic_by : (register unexpected big : Bool) (e f h : RelocationError) (x z : Patched × Slot)
+    → ◌≡◌ {A = Result (Patched × Slot) RelocationError} (if register then Err e else (if unexpected then Err f else (if big then Err h else Ok x))) (Ok z) → (unexpected ≡ false) × (z ≡ x)
+arithmetic_by true unexpected big e f h x z is = absurd (cc)
+arithmetic_by false true big e f h x z is = absurd (cc)
+arithmetic_by false false true e f h x z is = absurd (cc)
+arithmetic_by false false false e f h x z is = (refl, sym (same_ok x z is))
+
 pub immediate_keeps : (r : Resolved) (s u : Slot) → patched_immediate r s ≡ Ok (Written, u) → SlotKeeps s u
-immediate_keeps r s u is = grind (arith, nat_tests)
+immediate_keeps r s u is =
+    let x : Patched × Slot = (Written, record s { immediate = r.value % 2 ^ 32 }) in
+    let z : Patched × Slot = (Written, u) in
+    let same : z ≡ x = (arithmetic_by (is_register_source s) (is_unexpected r (sign_extended 32 s.immediate)) (not (fits_immediate s r.value)) NotImmediate WrongImmediate ImmediateOverflow x z is).1 in
+    record {
+      registers = ap (λ (q : Patched × Slot). q.1.registers) same;
+      class = ap (λ (q : Patched × Slot). q.1.opcode % 8) same;
+      mode = ap (λ (q : Patched × Slot). q.1.opcode / 32) same;
+      others = inr (ap (λ (q : Patched × Slot). q.1.offset) same);
+    }
 
 -- other size bits leave the class and the mode
 class_stays : (n bits : ℕ) → bits ≤ 3 → (n - n / 8 % 4 * 8 + bits * 8) % 8 ≡ n % 8

@@ -6,6 +6,7 @@ use Rattle.btf_relocate_model.specs.Instruction.{patched_code, sign_extended, fi
 use Rattle.btf_relocate_model.specs.Name.{essential}
 use Rattle.btf_relocate_model.specs.declared.error.RelocationError.TheVariants.{Misaligned, NoInstruction, NoSecondSlot, NotImmediate, WrongImmediate}
 use Rattle.btf_relocate_model.specs.declared.instruction.Patched.TheVariants.{Written, Poisoned}
+use Rattle.btf_relocate_model.specs.declared.instruction.Slot.{Slot}
 use Rattle.btf_relocate_model.specs.declared.resolved.Resolved.{Resolved}
 
 -- ---- names
@@ -37,6 +38,7 @@ moved : Resolved
 moved = record {
   expected = 4;
   value = 8;
+  is_matched = true;
   is_poisoned = false;
   validates = true;
   local_size = 4;
@@ -50,7 +52,7 @@ wider = record moved { expected = 0; target_size = 8 }
 
 -- nothing in the target matches
 missing : Resolved
-missing = record moved { value = 0; is_poisoned = true }
+missing = record moved { value = 0; is_matched = false; is_poisoned = true }
 
 -- a load at 4, an addition of 4, a load of the 64-bit immediate 4
 patches :
@@ -89,9 +91,25 @@ refused :
 unfolding moved
 refused = (refl, refl, refl, refl, refl)
 
+-- an assignment to a register, of 32 bits and of 64
+move : Slot
+move = record { opcode = 0xb4; registers = 0; offset = 0; immediate = 0 }
+
+wide_move : Slot
+wide_move = record move { opcode = 0xb7 }
+
 -- the ends of what an immediate holds
 immediates :
-    (fits_immediate 4294967295 ≡ true) × (fits_immediate 4294967296 ≡ false)
-    × (fits_immediate 18446744073709551615 ≡ true) × (fits_immediate 18446744071562067967 ≡ false)
+    (fits_immediate move 4294967295 ≡ true) × (fits_immediate move 4294967296 ≡ false)
+    × (fits_immediate move 18446744073709551615 ≡ true) × (fits_immediate move 18446744071562067967 ≡ false)
     × (sign_extended 16 32767 ≡ 32767) × (sign_extended 16 32768 ≡ 18446744073709518848)
+unfolding move
 immediates = (refl, refl, refl, refl, refl, refl)
+
+-- An instruction of 64 bits would load the size of 3 GiB, 0xc0000000, as a negative number.
+wide_immediates :
+    (fits_immediate wide_move 2147483647 ≡ true) × (fits_immediate wide_move 3221225472 ≡ false)
+    × (fits_immediate wide_move 18446744073709551615 ≡ true)
+    × (fits_immediate wide_move 18446744071562067967 ≡ false)
+unfolding move wide_move
+wide_immediates = (refl, refl, refl, refl)

@@ -1,5 +1,5 @@
 -- The laws of the definitions. Each is the contract of a public function of this crate.
-use Rattle.std.specs.Prelude.{◌≡◌, ◌≢◌, ◌⊎◌, ℕ, ◌+◌, ◌*◌, ◌/◌, ◌%◌, ◌^◌, ◌<◌, ◌≤◌, ◌==◌, not, if◌then◌else◌, Bool, true, false, List, All, [], ◌∷◌, ◌++◌, slice_get, slice_index, Option, Some, None, Result, Ok, Err}
+use Rattle.std.specs.Prelude.{◌≡◌, ◌≢◌, ◌⊎◌, ℕ, ◌+◌, ◌*◌, ◌/◌, ◌%◌, ◌^◌, ◌<◌, ◌≤◌, ◌==◌, not, if◌then◌else◌, Bool, true, false, List, All, [], ◌∷◌, ◌++◌, map, slice_get, slice_index, Option, Some, None, Result, Ok, Err}
 use Rattle.btf_model.specs.Record.{Record, kind_of}
 use Rattle.btf_model.specs.Table.{Table, Variant}
 use Rattle.btf_model.specs.Text.{bytes_at}
@@ -9,14 +9,14 @@ use Rattle.btf_relocate_model.specs.Comparison.{types_alike}
 use Rattle.btf_relocate_model.specs.Compatible.{is_composite_kind, compatible}
 use Rattle.btf_relocate_model.specs.Enumerator.{enumerators}
 use Rattle.btf_relocate_model.specs.Field.{Member, members_of}
-use Rattle.btf_relocate_model.specs.Instruction.{relocated, poisoned, sign_extended, wide_immediate, slot_len, ld_imm64, patched_code}
+use Rattle.btf_relocate_model.specs.Instruction.{relocated, poisoned, sign_extended, alu64, wide_immediate, slot_len, ld_imm64, patched_code}
 use Rattle.btf_relocate_model.specs.Kind.{relocation_kinds}
 use Rattle.btf_relocate_model.specs.Match.{match_path}
-use Rattle.btf_relocate_model.specs.Modules.{alone, relocated_section_among}
+use Rattle.btf_relocate_model.specs.Modules.{Candidates, KernelSetting, alone, left_after_section, relocated_section_among, reported_section, resolution_among}
 use Rattle.btf_relocate_model.specs.Name.{essential}
 use Rattle.btf_relocate_model.specs.Path.{Path, path_of, local_pointer}
 use Rattle.btf_relocate_model.specs.Resolution.{TablePair, Question, Subject, Fields, OfField, OfType, OfEnumerator, topic_of, poisons, resolution, question, instruction_word, type_word, rule_of, relocation_kind_at, kind_word, match_of, local_match, value_of, validates}
-use Rattle.btf_relocate_model.specs.Section.{candidates_of, code_after, patched_outcome, patch_of, relocated_section}
+use Rattle.btf_relocate_model.specs.Section.{candidates_of, code_after, patched_outcome, patch_of, relocated_by, relocated_section}
 use Rattle.btf_relocate_model.specs.Types.{pointer_size, name_at, name_or_none, resolved_record}
 use Rattle.btf_relocate_model.specs.Value.{field_value, truth_number}
 use Rattle.btf_relocate_model.specs.declared.comparison.Rule.TheVariants.{Matches}
@@ -30,14 +30,19 @@ use Rattle.btf_relocate_model.specs.declared.instruction.Patched.{Patched}
 use Rattle.btf_relocate_model.specs.declared.instruction.Patched.TheVariants.{Written, Poisoned}
 use Rattle.btf_relocate_model.specs.declared.kind.RelocationKind.{RelocationKind}
 use Rattle.btf_relocate_model.specs.declared.kind.RelocationKind.TheVariants.{TypeMatches}
+use Rattle.btf_relocate_model.specs.declared.report.Report.{Report}
 use Rattle.btf_relocate_model.specs.declared.resolved.Resolved.{Resolved}
 
--- The field of a slot reads as a value: the offset of a load or store, the immediate of another instruction, which is
--- zero- or sign-extended.
+-- The immediate of an arithmetic instruction reads as a value: its sign-extension, or in an instruction of 32 bits its
+-- zero-extension.
+abbrev pub ImmediateHas : ℕ → Slot → Type 0
+ImmediateHas value s =
+    (sign_extended 32 s.immediate ≡ value) ⊎ ((s.opcode % 8 ≢ alu64) × (s.immediate ≡ value))
+
+-- The field of a slot reads as a value: the offset of a load or store, the immediate of another instruction.
 abbrev pub SlotHas : ℕ → Slot → Type 0
 SlotHas value s =
-    ((s.opcode % 8 ≤ 3) × (s.offset ≡ value))
-    ⊎ ((3 < s.opcode % 8) × ((s.immediate ≡ value) ⊎ (sign_extended 32 s.immediate ≡ value)))
+    ((s.opcode % 8 ≤ 3) × (s.offset ≡ value)) ⊎ ((3 < s.opcode % 8) × ImmediateHas value s)
 
 -- the field of an instruction reads as a value
 abbrev pub HasValue : ℕ → Instruction → Type 0
@@ -303,3 +308,21 @@ WithoutModules =
     (local kernel : Table) (is_shared : Bool) (code : List ℕ) (records : List (List ℕ))
     → relocated_section_among local (alone kernel) is_shared code records
     ≡ relocated_section (record { local = local; target = kernel }) is_shared code records
+
+-- ---- reports
+
+-- The reports of the records of a section have their outcomes, and go with the same code after them.
+abbrev pub ReportsHaveOutcomes : Type 0
+ReportsHaveOutcomes =
+    (g : KernelSetting) (is_shared : Bool) (left : ℕ → Candidates) (code : List ℕ) (records : List (List ℕ))
+    → let r = reported_section g is_shared left code records in
+    (map (λ (x : Report). x.outcome) r.0, r.1)
+    ≡ relocated_by g.local.order (resolution_among g.local g.targets) is_shared left code records
+
+-- The records of two lists: those of the second go on with the candidates and the code that the first leaves.
+abbrev pub RecordsInTurn : Type 0
+RecordsInTurn =
+    (g : KernelSetting) (is_shared : Bool) (left : ℕ → Candidates) (code : List ℕ) (first second : List (List ℕ))
+    → let a = reported_section g is_shared left code first in
+    let b = reported_section g is_shared (left_after_section g is_shared left first) a.1 second in
+    reported_section g is_shared left code (first ++ second) ≡ (a.0 ++ b.0, b.1)

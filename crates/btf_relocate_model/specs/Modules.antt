@@ -3,16 +3,19 @@
 -- candidate, and its `bpf_core_calc_relo_insn`, where all candidates of all tables have to agree. The table of a module
 -- is whole here: the kernel's types and then the module's own. Since the kernel's table has no candidate, each candidate
 -- in it is the module's own.
-use Rattle.std.specs.Prelude.{ℕ, ◌==◌, ◌&&◌, not, if◌then◌else◌, Bool, List, [], ◌∷◌, length, map, Option, None, Result, Ok, Err}
+use Rattle.std.specs.Prelude.{ℕ, suc, ◌==◌, ◌&&◌, not, if◌then◌else◌, Bool, List, [], ◌∷◌, length, map, slice_get, Option, Some, None, option_map, Result, Ok, Err}
+use Rattle.std.specs.Option.{option_or}
 use Rattle.btf_model.specs.Table.{Table}
 use Rattle.btf_relocate_model.specs.Resolution.{Subject, question, answers, answered_by, candidate_answer, remaining, resolution, resolved_by, validates, type_word}
-use Rattle.btf_relocate_model.specs.Section.{candidates_of, relocated_by}
+use Rattle.btf_relocate_model.specs.Section.{candidates_of, left_after_all, relocated_by, reported_by}
 use Rattle.btf_relocate_model.specs.Types.{◌>>=◌}
 use Rattle.btf_relocate_model.specs.declared.answer.Answer.{Answer}
 use Rattle.btf_relocate_model.specs.declared.error.RelocationError.{RelocationError}
 use Rattle.btf_relocate_model.specs.declared.field.Value.{Value}
 use Rattle.btf_relocate_model.specs.declared.instruction.Patched.{Patched}
 use Rattle.btf_relocate_model.specs.declared.kind.RelocationKind.{RelocationKind}
+use Rattle.btf_relocate_model.specs.declared.report.Matched.{Matched}
+use Rattle.btf_relocate_model.specs.declared.report.Report.{Report}
 use Rattle.btf_relocate_model.specs.declared.resolved.Resolved.{Resolved}
 
 -- The table of a kernel, and those of its modules.
@@ -103,6 +106,38 @@ abbrev pub relocated_section_among : Table → Targets → Bool → List ℕ →
     → List (Result Patched RelocationError) × List ℕ
 relocated_section_among local ts is_shared code records =
     relocated_by local.order (resolution_among local ts) is_shared (candidates_among local ts) code records
+
+-- ---- all records of a program
+
+-- the first of these ids, in the table of this module
+abbrev pub first_id : Option ℕ → List ℕ → Option Matched
+first_id index ids = option_map (λ (id : ℕ). record { module_index = index; type_id = id }) (slice_get ids 0)
+
+-- the first of the candidates in the tables of modules, where the first table is that of the module of this index
+abbrev pub first_in_modules : ℕ → List InModule → Option Matched
+first_in_modules index [] = None
+first_in_modules index (m ∷ ms) = option_or (first_id (Some index) m.ids) (first_in_modules (suc index) ms)
+
+-- The first candidate.
+abbrev pub first_matched : Candidates → Option Matched
+first_matched (InKernel ids) = first_id None ids
+first_matched (InModules found) = first_in_modules 0 found
+
+-- the candidates of each type before the first record of a program
+abbrev pub all_candidates : KernelSetting → ℕ → Candidates
+all_candidates g id = candidates_among g.local g.targets id
+
+-- What is done for the records of one section of a program, and the code after them, where the records of the sections
+-- before it have left these candidates of each type.
+abbrev pub reported_section : KernelSetting → Bool → (ℕ → Candidates) → List ℕ → List (List ℕ)
+    → List Report × List ℕ
+reported_section g is_shared left code records =
+    reported_by first_matched g.local.order (resolution_among g.local g.targets) is_shared left code records
+
+-- the candidates of each type after the records of the section
+abbrev pub left_after_section : KernelSetting → Bool → (ℕ → Candidates) → List (List ℕ) → ℕ → Candidates
+left_after_section g is_shared left records =
+    left_after_all (resolution_among g.local g.targets) is_shared left records
 
 -- ---- without modules
 

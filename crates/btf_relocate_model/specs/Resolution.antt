@@ -222,6 +222,7 @@ abbrev pub local_id : ℕ → Resolved
 local_id id = record {
   expected = id;
   value = id;
+  is_matched = false;
   is_poisoned = false;
   validates = false;
   local_size = 0;
@@ -234,6 +235,7 @@ abbrev pub resolved_by : Table → Table → RelocationKind → Bool → Value �
 resolved_by local t k is_validated expected (Some a) = record {
   expected = expected.value;
   value = a.value.value;
+  is_matched = true;
   is_poisoned = false;
   validates = is_validated;
   local_size = expected.size;
@@ -243,6 +245,7 @@ resolved_by local t k is_validated expected (Some a) = record {
 resolved_by local t k is_validated expected None = record {
   expected = expected.value;
   value = 0;
+  is_matched = false;
   is_poisoned = poisons k;
   validates = is_validated;
   local_size = expected.size;

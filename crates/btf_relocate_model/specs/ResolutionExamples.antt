@@ -80,6 +80,7 @@ moved : ℕ → ℕ → Resolved
 moved expected value = record {
   expected = expected;
   value = value;
+  is_matched = true;
   is_poisoned = false;
   validates = true;
   local_size = 4;

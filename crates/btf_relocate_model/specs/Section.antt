@@ -1,16 +1,20 @@
 -- What becomes of the code of a section: its records in order.
--- Source: libbpf's `bpf_object__relocate_core`, whose candidates of a type are shared by the records of the type; the
--- kernel's `bpf_core_apply` gives each record all candidates.
+-- Source: libbpf's `bpf_object__relocate_core`, whose candidates of a type are shared by all records of the type in an
+-- object (`cand_cache`); the kernel's `bpf_core_apply` gives each record all candidates.
 use Rattle.std.specs.Prelude.{ℕ, ◌==◌, if◌then◌else◌, Bool, List, [], ◌∷◌, slice_get, Option, Some, None, Result, Ok, Err}
+use Rattle.std.specs.Result.{result_ok}
 use Rattle.btf_model.specs.Record.{Record, kind_number}
 use Rattle.btf_model.specs.Table.{Table}
 use Rattle.btf_model.specs.declared.endianness.Endianness.{Endianness}
 use Rattle.btf_relocate_model.specs.Candidates.{candidates}
-use Rattle.btf_relocate_model.specs.Instruction.{patched_code}
+use Rattle.btf_relocate_model.specs.Instruction.{instruction_at, patched_code}
 use Rattle.btf_relocate_model.specs.Resolution.{TablePair, resolution, type_word, instruction_word}
 use Rattle.btf_relocate_model.specs.Types.{name_or_none}
 use Rattle.btf_relocate_model.specs.declared.error.RelocationError.{RelocationError}
+use Rattle.btf_relocate_model.specs.declared.instruction.Instruction.{Instruction}
 use Rattle.btf_relocate_model.specs.declared.instruction.Patched.{Patched}
+use Rattle.btf_relocate_model.specs.declared.report.Matched.{Matched}
+use Rattle.btf_relocate_model.specs.declared.report.Report.{Report}
 use Rattle.btf_relocate_model.specs.declared.resolved.Resolved.{Resolved}
 
 -- the candidates for a type of the program's table; none if the id has no type
@@ -58,6 +62,14 @@ abbrev pub left_after : {A : Type 0} → Bool → List ℕ → Result (Resolved 
 left_after is_shared words r left =
     if is_shared then changed_at (type_word words) (candidates_after (left (type_word words)) r) left else left
 
+-- The candidates for the records after all of these, where `resolve` has what a record asks to be written for its
+-- candidates.
+abbrev pub left_after_all : {A : Type 0} → (A → List ℕ → Result (Resolved × A) RelocationError) → Bool → (ℕ → A)
+    → List (List ℕ) → ℕ → A
+left_after_all resolve is_shared left [] = left
+left_after_all resolve is_shared left (words ∷ records) =
+    left_after_all resolve is_shared (left_after is_shared words (resolve (left (type_word words)) words) left) records
+
 -- an outcome, before those of later records
 abbrev pub then_outcomes : Result Patched RelocationError → List (Result Patched RelocationError) × List ℕ
     → List (Result Patched RelocationError) × List ℕ
@@ -85,3 +97,38 @@ abbrev pub relocated_section : TablePair → Bool → List ℕ → List (List �
     → List (Result Patched RelocationError) × List ℕ
 relocated_section g is_shared code records =
     section_relocated_from g is_shared (candidates_of g.local g.target) code records
+
+-- ---- what was done
+
+-- the instruction at a place of the code, if there is one
+abbrev pub instruction_in : Endianness → List ℕ → ℕ → Option Instruction
+instruction_in order code at = result_ok (instruction_at order code at)
+
+-- the type that matches first: `first` has it for the candidates that remain after a record
+abbrev pub matched_by : {A : Type 0} → (A → Option Matched) → Result (Resolved × A) RelocationError → Option Matched
+matched_by first (Ok r) = if r.0.is_matched then first r.1 else None
+matched_by first (Err e) = None
+
+-- What was done for a record of a program of this byte order, by the code before it and the patch.
+abbrev pub report_of : Endianness → List ℕ → List ℕ → Option Matched → Result (Patched × List ℕ) RelocationError → Report
+report_of order code words matched p = record {
+  outcome = patched_outcome p;
+  matched = matched;
+  before = instruction_in order code (instruction_word words);
+  after = instruction_in order (code_after code p) (instruction_word words);
+}
+
+-- a report, before those of later records
+abbrev pub then_reports : Report → List Report × List ℕ → List Report × List ℕ
+then_reports r rest = (r ∷ rest.0, rest.1)
+
+-- What was done for each record, and the code after all of them.
+abbrev pub reported_by : {A : Type 0} → (A → Option Matched) → Endianness
+    → (A → List ℕ → Result (Resolved × A) RelocationError) → Bool → (ℕ → A) → List ℕ → List (List ℕ)
+    → List Report × List ℕ
+reported_by first order resolve is_shared left code [] = ([], code)
+reported_by first order resolve is_shared left code (words ∷ records) =
+    let r = resolve (left (type_word words)) words in
+    let p = patch_in order code words r in
+    then_reports (report_of order code words (matched_by first r) p)
+    (reported_by first order resolve is_shared (left_after is_shared words r left) (code_after code p) records)

@@ -4,7 +4,7 @@
 //! contract of a function that does nothing.
 #![tactic(auto)]
 
-ghost use Rattle.btf_relocate_model.specs.Laws.{WrittenReadsBack, WrittenKeepsTheRest, PoisonHasAReason, ExistenceAgrees, PatchesCommute, NeighboursExchange, StringsMayBeAppended, OwnTableGivesTheExpected, ExpectedKeepsTheCode, OwnTableKeepsTheCode, OwnTableKeepsTheSection, PathsMatchThemselves, WithoutModules};
+ghost use Rattle.btf_relocate_model.specs.Laws.{WrittenReadsBack, WrittenKeepsTheRest, PoisonHasAReason, ExistenceAgrees, PatchesCommute, NeighboursExchange, StringsMayBeAppended, OwnTableGivesTheExpected, ExpectedKeepsTheCode, OwnTableKeepsTheCode, OwnTableKeepsTheSection, PathsMatchThemselves, WithoutModules, ReportsHaveOutcomes, RecordsInTurn};
 
 mod answer;
 mod comparison;
@@ -12,6 +12,7 @@ mod error;
 mod field;
 mod instruction;
 mod kind;
+mod report;
 mod resolved;
 
 pub use answer::{Answer, Match};
@@ -20,6 +21,7 @@ pub use error::RelocationError;
 pub use field::{Field, Load, Value};
 pub use instruction::{Instruction, Patched, Slot};
 pub use kind::RelocationKind;
+pub use report::{Matched, Report};
 pub use resolved::Resolved;
 
 /// A value that a relocation writes into an instruction is read back from it.
@@ -92,4 +94,15 @@ pub fn own_table_keeps_the_section()
 /// For a kernel without modules, the records of a section become what they become for the kernel's table alone.
 pub fn without_modules()
     ensures { WithoutModules }
+{}
+
+/// The reports of the records of a section have the outcomes of the records, and go with the same code after them.
+pub fn reports_have_outcomes()
+    ensures { ReportsHaveOutcomes }
+{}
+
+/// The records of two lists, one after the other, are those of one list: the second list begins with the candidates and
+/// the code that the first one leaves.
+pub fn records_in_turn()
+    ensures { RecordsInTurn }
 {}

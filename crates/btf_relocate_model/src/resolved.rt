@@ -7,6 +7,8 @@ pub struct Resolved {
     pub expected: u64,
     /// The value for the target's table.
     pub value: u64,
+    /// Whether a type of the target matches; false for a record that asks for the id of the program's own type.
+    pub is_matched: bool,
     /// Whether the instruction becomes a poisoned one, because nothing in the target matches.
     pub is_poisoned: bool,
     /// Whether the instruction must have the expected value before it is patched.

@@ -7,7 +7,8 @@ use btf_relocate::{Target, Targets};
 use btf_table::Btf;
 use btfobj_cli::{Ending, Fault, Form, Relocated, Relocation, list_relocations, relocate};
 
-/// Relocates the code of an object. Writes the new object, or without an output what became of its records.
+/// Relocates the code of an object. Writes the new object, or without an output what was done for its records; as JSON
+/// it is also written beside an output.
 pub fn relocate_file<'a>(
     rt: &HostRuntime,
     file: &'a str,
@@ -52,13 +53,14 @@ fn relocate_for<'a, 'b, 't>(
     let (written, sections) = blame(file, relocated)?;
     let relocated = Relocated {
         bytes,
-        file: &written,
         sections: &sections,
         targets: &targets,
     };
-    match relocation.output {
-        Some(output) => write(rt, output, &written, out)?,
-        None => list(rt, file, &relocated, relocation.form, out)?,
+    if let Some(output) = relocation.output {
+        write(rt, output, &written, out)?;
+    }
+    if relocation.is_listed() {
+        list(rt, file, &relocated, relocation.form, out)?;
     }
     Ok(match Ending::of(&sections) {
         Ending::Poisoned if relocation.allows_poison => Answer::Yes,
@@ -84,10 +86,9 @@ pub fn summarize<'a>(
     let (policy, refusals) = (CandidatePolicy::Shared, Refusals::Keep);
     let keys = hasher(rt, file)?;
     let relocated = relocate(rt.alloc(), bytes, &targets, policy, refusals, keys);
-    let (written, sections) = blame(file, relocated)?;
+    let (_, sections) = blame(file, relocated)?;
     let relocated = Relocated {
         bytes,
-        file: &written,
         sections: &sections,
         targets: &targets,
     };

@@ -5,14 +5,18 @@ use Rattle.btf_loader_model.specs.Loader.{Outcomes, any_error}
 use Rattle.btf_relocate_model.specs.declared.error.RelocationError.{RelocationError}
 use Rattle.btf_relocate_model.specs.declared.instruction.Patched.{Patched}
 use Rattle.btf_relocate_model.specs.declared.instruction.Patched.TheVariants as patched
+use Rattle.btf_relocate_model.specs.declared.report.Report.{Report}
 use Rattle.btfobj_cli.specs.declared.relocation.Ending.{Ending}
 use Rattle.btfobj_cli.specs.declared.relocation.Ending.TheVariants.{Written, Poisoned, Refused}
 
 -- a record poisoned its instruction
-abbrev pub is_poisoned : Result Patched RelocationError → Bool
-is_poisoned (Ok patched.Written) = false
-is_poisoned (Ok patched.Poisoned) = true
-is_poisoned (Err error) = false
+abbrev pub poisons_by : Result Patched RelocationError → Bool
+poisons_by (Ok patched.Written) = false
+poisons_by (Ok patched.Poisoned) = true
+poisons_by (Err error) = false
+
+abbrev pub is_poisoned : Report → Bool
+is_poisoned report = poisons_by report.outcome
 
 -- a record of a section poisoned its instruction
 abbrev pub has_poison : Outcomes → Bool

@@ -217,7 +217,7 @@ static ARGUMENTS: [Argument; 28] = [
         form: Form::Output,
         value: "OUT",
         is_required: false,
-        help: "Write the relocated object to this file, and no list; - is standard output",
+        help: "Write the relocated object to this file, and a list only with --json; - is standard output",
     },
     Argument {
         of: &["sanitize"],

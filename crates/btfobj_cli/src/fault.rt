@@ -44,9 +44,17 @@ pub enum Fault {
     #[error("{0}")]
     Rewrite(SanitizeError),
 
+    /// The target's byte order is not that of the object.
+    #[error("the target's table has the other byte order")]
+    OtherOrder,
+
     /// The code of the object cannot be relocated.
     #[error("{0}")]
     Relocation(LoaderError),
+
+    /// A relocation record of the object has an error: the record's line in a list, after the name of its section.
+    #[error("{0}")]
+    Record(String),
 
     /// No type of the table has the selected name.
     #[error("no type has this name")]

@@ -27,7 +27,7 @@ pub struct Relocation<'a> {
     pub base: Option<&'a str>,
     /// The files with the tables of modules, which continue the kernel's table.
     pub modules: Vec<&'a str>,
-    /// The file for the relocated object; without one the records are listed.
+    /// The file for the relocated object; `-` is standard output.
     pub output: Option<&'a str>,
     /// Which candidates a record has.
     pub policy: CandidatePolicy,
@@ -37,6 +37,17 @@ pub struct Relocation<'a> {
     pub allows_poison: bool,
     /// The form of the list.
     pub form: Form,
+}
+
+impl Relocation<'_> {
+    /// Whether the records are listed: if no object is written, and as JSON also beside an object, unless that goes to
+    /// standard output.
+    pub fn is_listed(&self) -> bool {
+        match self.output {
+            Some(output) => self.form == Form::Json && output != "-",
+            None => true,
+        }
+    }
 }
 
 /// The request of a command line. A file `-` is standard input, and an output `-` is standard output. The file `base`

@@ -13,6 +13,7 @@ use Rattle.btf_relocate_model.specs.declared.error.RelocationError.{RelocationEr
 use Rattle.btf_relocate_model.specs.declared.error.RelocationError.TheVariants as relocation
 use Rattle.btf_relocate_model.specs.declared.instruction.Patched.{Patched}
 use Rattle.btf_relocate_model.specs.declared.instruction.Patched.TheVariants.{Written, Poisoned}
+use Rattle.btf_relocate_model.specs.declared.report.Report.{Report}
 use Rattle.vbtf.specs.Object as object
 use Rattle.vbtf.specs.Object.{ReportsNumber}
 use Rattle.vbtf.specs.Status.{no_details, Fills, ReportsError, ReportsNoMemory}
@@ -30,29 +31,29 @@ refuses_records options = options / 2 % 2 == 0
 
 -- ---- the numbers of records
 
--- the outcome of a record
-abbrev pub Outcome : Type 0
-Outcome = Result Patched RelocationError
+-- an instruction was poisoned
+abbrev pub poisons_by : Result Patched RelocationError → Bool
+poisons_by (Ok Written) = false
+poisons_by (Ok Poisoned) = true
+poisons_by (Err error) = false
 
 -- the instruction of the record is poisoned
-abbrev pub poisons_instruction : Outcome → Bool
-poisons_instruction (Ok Written) = false
-poisons_instruction (Ok Poisoned) = true
-poisons_instruction (Err error) = false
+abbrev pub poisons_instruction : Report → Bool
+poisons_instruction report = poisons_by report.outcome
 
--- the outcomes of the records of a section; none if it has no code in the file
-abbrev pub outcomes_in : ℕ × Outcomes → List Outcome
-outcomes_in section = unwrap_or section.1 []
+-- the reports of the records of a section; none if it has no code in the file
+abbrev pub reports_in : ℕ × Outcomes → List Report
+reports_in section = unwrap_or section.1 []
 
--- the outcomes of the records of all sections, one after another
-abbrev pub all_outcomes : List (ℕ × Outcomes) → List Outcome
-all_outcomes sections = flat_map outcomes_in sections
+-- the reports of the records of all sections, one after another
+abbrev pub all_reports : List (ℕ × Outcomes) → List Report
+all_reports sections = flat_map reports_in sections
 
 -- The numbers of records, of poisoned instructions and of errors; 2^64 - 1 for a number that does not fit.
-pub record Counts (tally : Tally) (outcomes : List Outcome) : Type 0 where
-  pub records : tally.records ≡ u64_saturate (length outcomes)
-  pub poisoned : tally.poisoned ≡ u64_saturate (count_by poisons_instruction outcomes)
-  pub refused : tally.refused ≡ u64_saturate (count_by is_error outcomes)
+pub record Counts (tally : Tally) (reports : List Report) : Type 0 where
+  pub records : tally.records ≡ u64_saturate (length reports)
+  pub poisoned : tally.poisoned ≡ u64_saturate (count_by poisons_instruction reports)
+  pub refused : tally.refused ≡ u64_saturate (count_by is_error reports)
 
 -- ---- errors
 

@@ -4,8 +4,9 @@ ghost use Rattle.std.specs.Prelude.{◌≡◌, ◌≢◌, ◌<◌, ◌≤◌, �
 ghost use Rattle.btf_loader.specs.Results.{outcomes_of, refuses_errors};
 ghost use Rattle.btf_plain.specs.declared.error.BtfError.TheVariants.{OutOfMemory as NoMemory};
 ghost use Rattle.btf_relocate.specs.Sections.{is_shared};
-ghost use Rattle.vbtf.specs.Relocate.{Outcome as Said, shares_candidates, refuses_records, outcomes_in, all_outcomes, Counts, ReportsReason, EndsRelocating, EndsRelocatingFor};
+ghost use Rattle.vbtf.specs.Relocate.{shares_candidates, refuses_records, reports_in, all_reports, Counts, ReportsReason, EndsRelocating, EndsRelocatingFor};
 ghost use Rattle.vbtf.specs.Status.{KeepsHandle};
+ghost use Rattle.btf_relocate_model.specs.declared.report.Report.{Report as Said};
 
 use crate::fault::{CLOSED, Fault, INVALID_ARGUMENT, OUT_OF_MEMORY, report, report_number};
 use crate::handle::Handle;
@@ -18,7 +19,7 @@ use crate::write::fill;
 use btf::BtfError;
 use btf_elf::ObjectError;
 use btf_loader::{
-    CandidatePolicy, LoaderError, Outcome, Refusals, SectionOutcomes, Target, relocate_object_with,
+    CandidatePolicy, LoaderError, Refusals, Report, SectionOutcomes, Target, relocate_object_with,
 };
 use btf_relocate::Patched;
 use std::alloc::Global;
@@ -169,9 +170,9 @@ fn refusals(options: u32) -> Refusals
 }
 
 impl Tally {
-    /// Counts the outcomes of the records of each section.
+    /// Counts the records of each section.
     fn of(sections: &[SectionOutcomes]) -> Tally
-        ensures { Counts result (all_outcomes (map outcomes_of sections.now)) }
+        ensures { Counts result (all_reports (map outcomes_of sections.now)) }
     {
         let mut tally = Tally {
             records: 0,
@@ -184,26 +185,26 @@ impl Tally {
         tally
     }
 
-    /// Counts the outcomes of the records of one more section.
+    /// Counts the records of one more section.
     fn add_section(&mut self, section: &SectionOutcomes)
         ensures { (counted : List Said) → Counts self.old counted
-            → Counts self.new (counted ++ outcomes_in (outcomes_of section.now)) }
+            → Counts self.new (counted ++ reports_in (outcomes_of section.now)) }
     {
-        let Some(outcomes) = &section.outcomes else {
+        let Some(reports) = &section.outcomes else {
             return;
         };
-        for outcome in outcomes {
-            self.add(outcome);
+        for report in reports {
+            self.add(report);
         }
     }
 
-    /// Counts the outcome of one more record.
-    fn add(&mut self, outcome: &Outcome)
+    /// Counts one more record.
+    fn add(&mut self, report: &Report)
         ensures { (counted : List Said) → Counts self.old counted
-            → Counts self.new (counted ++ outcome.now ∷ []) }
+            → Counts self.new (counted ++ report.now ∷ []) }
     {
         self.records = self.records.saturating_add(1);
-        match outcome {
+        match report.outcome {
             Ok(Patched::Written) => {}
             Ok(Patched::Poisoned) => self.poisoned = self.poisoned.saturating_add(1),
             Err(_) => self.refused = self.refused.saturating_add(1),

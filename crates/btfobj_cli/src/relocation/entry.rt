@@ -1,29 +1,33 @@
 //! What became of a record, for a reader.
 
-use crate::relocation::instruction::Written;
+use crate::relocation::instruction::{Written, access_size};
 use crate::relocation::spec::{Spec, TypeText};
-use btf_loader::Outcome;
-use btf_model::Endianness;
-use btf_relocate::Patched;
+use btf_relocate::{Instruction, Patched, Report};
 use serde_json::{Value, json};
 use std::alloc::{AllocError, Global};
 use std::fmt;
 
 /// What an instruction has that a relocation writes.
 #[derive(Clone, Copy)]
-pub struct Access {
+struct Access {
     /// The field.
-    pub field: Option<Written>,
+    field: Option<Written>,
     /// The number of bytes that a load or store reads or writes.
-    pub size: Option<u32>,
+    size: Option<u32>,
 }
 
 impl Access {
-    /// That of the instruction at an offset of some code.
-    pub fn at(code: &[u8], offset: usize, order: Endianness) -> Access {
-        Access {
-            field: Written::at(code, offset, order),
-            size: Written::access_size(code, offset),
+    /// That of an instruction, if there is one.
+    fn of(instruction: &Option<Instruction>) -> Access {
+        match instruction {
+            Some(instruction) => Access {
+                field: Written::of(instruction),
+                size: access_size(instruction),
+            },
+            None => Access {
+                field: None,
+                size: None,
+            },
         }
     }
 
@@ -44,29 +48,32 @@ impl Access {
     }
 }
 
-/// What became of a record.
+/// What was done for a record.
 #[derive(Clone, Copy)]
 pub struct Entry<'a> {
     /// What the record is about.
     pub spec: Spec<'a>,
     /// The type of the target that matches, if one does.
     pub found: Option<TypeText<'a>>,
-    /// The outcome of the record.
-    pub outcome: Outcome,
-    /// Its instruction before.
-    pub before: Access,
-    /// Its instruction after.
-    pub after: Access,
+    /// What was done.
+    pub report: Report,
 }
 
 impl Entry<'_> {
+    /// Whether the record was resolved, and no type of the target matches. After an error it is not known what matches.
+    fn finds_nothing(&self) -> bool {
+        self.spec.has_target() && self.report.outcome.is_ok()
+    }
+
     /// Writes what the record changed: the field, and the size if it is another one.
     fn write_patch<W: fmt::Write>(&self, f: &mut fmt::Formatter<W>) -> fmt::Result {
+        let before = Access::of(&self.report.before);
+        let after = Access::of(&self.report.after);
         f.write_str(": patched")?;
-        if let (Some(before), Some(after)) = (self.before.field, self.after.field) {
+        if let (Some(before), Some(after)) = (before.field, after.field) {
             write!(f, " {before} -> {after}")?;
         }
-        match (self.before.size, self.after.size) {
+        match (before.size, after.size) {
             (Some(before), Some(after)) if before != after => {
                 write!(f, ", size {before} -> {after}")
             }
@@ -78,12 +85,12 @@ impl Entry<'_> {
     pub fn value(&self, alloc: Global) -> Result<Value, AllocError> {
         let (insn, kind) = (self.spec.instruction(), self.spec.kind_text(alloc)?);
         let about = format!(in alloc; "{}", self.spec)?;
-        let outcome = match &self.outcome {
+        let outcome = match &self.report.outcome {
             Ok(Patched::Written) => "patched",
             Ok(Patched::Poisoned) => "poisoned",
             Err(_) => "refused",
         };
-        let error = match &self.outcome {
+        let error = match &self.report.outcome {
             Ok(_) => Value::Null,
             Err(error) => Value::String(format!(in alloc; "{error}")?),
         };
@@ -91,6 +98,8 @@ impl Entry<'_> {
             Some(found) => Value::from(found.id),
             None => Value::Null,
         };
+        let before = Access::of(&self.report.before);
+        let after = Access::of(&self.report.after);
         json!(in alloc; {
             "insn": insn,
             "kind": kind.as_str(),
@@ -99,10 +108,10 @@ impl Entry<'_> {
             "target_id": found,
             "outcome": outcome,
             "error": error,
-            "before": self.before.field_value(),
-            "after": self.after.field_value(),
-            "size_before": self.before.size_value(),
-            "size_after": self.after.size_value()
+            "before": before.field_value(),
+            "after": after.field_value(),
+            "size_before": before.size_value(),
+            "size_after": after.size_value()
         })
     }
 }
@@ -112,10 +121,10 @@ impl fmt::Display for Entry<'_> {
         write!(f, "insn #{}: {}", self.spec.instruction(), self.spec)?;
         match self.found {
             Some(found) => write!(f, " -> {found}")?,
-            None if self.spec.has_target() => f.write_str(" -> no match")?,
+            None if self.finds_nothing() => f.write_str(" -> no match")?,
             None => {}
         }
-        match &self.outcome {
+        match &self.report.outcome {
             Ok(Patched::Written) => self.write_patch(f),
             Ok(Patched::Poisoned) => f.write_str(": poisoned"),
             Err(error) => write!(f, ": {error}"),

@@ -1,11 +1,8 @@
 //! The field of an instruction that a relocation writes.
 
-use btf_model::Endianness;
+use btf_relocate::{Instruction, Slot};
 use serde_json::Value;
 use std::fmt;
-
-/// The opcode of a load of a 64-bit immediate.
-const LOAD_IMMEDIATE: u8 = 0x18;
 
 /// The field of an instruction that a relocation writes.
 #[derive(Clone, Copy, Debug, PartialEq, Eq)]
@@ -19,34 +16,18 @@ pub enum Written {
 }
 
 impl Written {
-    /// The field of the instruction at an offset; None if the code has no such instruction there.
-    pub fn at(code: &[u8], offset: usize, order: Endianness) -> Option<Written> {
-        let rest = code.get(offset..)?;
-        let opcode = *rest.first()?;
-        match opcode % 8 {
-            0 if opcode == LOAD_IMMEDIATE => {
-                let low = immediate(rest, order)?;
-                let high = immediate(rest.get(8..)?, order)?;
-                Some(Written::Wide(u64::from(high) << 32 | u64::from(low)))
+    /// The field of an instruction; None if a relocation writes none of its fields.
+    pub fn of(instruction: &Instruction) -> Option<Written> {
+        match instruction {
+            Instruction::Wide(first, second) => {
+                let (low, high) = (u64::from(first.immediate), u64::from(second.immediate));
+                Some(Written::Wide(high << 32 | low))
             }
-            1..=3 => {
-                let half = [*rest.get(2)?, *rest.get(3)?];
-                Some(Written::Offset(order.read_u16(half).cast_signed()))
-            }
-            4 | 7 => Some(Written::Immediate(immediate(rest, order)?.cast_signed())),
-            _ => None,
-        }
-    }
-
-    /// The number of bytes that the load or store at an offset reads or writes; None for other instructions.
-    pub fn access_size(code: &[u8], offset: usize) -> Option<u32> {
-        let opcode = *code.get(offset)?;
-        match (opcode % 8, opcode / 8 % 4) {
-            (1..=3, 0) => Some(4),
-            (1..=3, 1) => Some(2),
-            (1..=3, 2) => Some(1),
-            (1..=3, _) => Some(8),
-            _ => None,
+            Instruction::Narrow(slot) => match slot.opcode % 8 {
+                1..=3 => Some(Written::Offset(slot.offset.cast_signed())),
+                4 | 7 => Some(Written::Immediate(slot.immediate.cast_signed())),
+                _ => None,
+            },
         }
     }
 
@@ -60,10 +41,23 @@ impl Written {
     }
 }
 
-/// The immediate of the slot at the front of some code.
-fn immediate(slot: &[u8], order: Endianness) -> Option<u32> {
-    let word = [*slot.get(4)?, *slot.get(5)?, *slot.get(6)?, *slot.get(7)?];
-    Some(order.read_u32(word))
+/// The number of bytes that a load or store reads or writes; None for other instructions.
+pub fn access_size(instruction: &Instruction) -> Option<u32> {
+    match instruction {
+        Instruction::Narrow(slot) => slot_size(slot),
+        Instruction::Wide(_, _) => None,
+    }
+}
+
+/// The number of bytes that an instruction of one slot reads or writes.
+fn slot_size(slot: &Slot) -> Option<u32> {
+    match (slot.opcode % 8, slot.opcode / 8 % 4) {
+        (1..=3, 0) => Some(4),
+        (1..=3, 1) => Some(2),
+        (1..=3, 2) => Some(1),
+        (1..=3, _) => Some(8),
+        _ => None,
+    }
 }
 
 impl fmt::Display for Written {

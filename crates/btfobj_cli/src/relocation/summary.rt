@@ -1,11 +1,10 @@
 //! The records that a target cannot satisfy.
 
 use crate::fault::Fault;
-use crate::relocation::matches::Matches;
+use crate::relocation::Listing;
 use crate::relocation::spec::name_text;
-use crate::relocation::{Code, Listing};
-use btf_loader::{Outcome, SectionOutcomes};
-use btf_relocate::Patched;
+use btf_loader::SectionOutcomes;
+use btf_relocate::{Patched, Report};
 use std::fmt::Write;
 
 /// The numbers of relocation records.
@@ -32,10 +31,10 @@ impl Counts {
     }
 
     /// Counts the records of one more section.
-    fn add(&mut self, outcomes: &[Outcome]) {
-        for outcome in outcomes {
+    fn add(&mut self, reports: &[Report]) {
+        for report in reports {
             self.records = self.records.saturating_add(1);
-            if !is_satisfied(outcome) {
+            if !is_satisfied(report) {
                 self.unsatisfied = self.unsatisfied.saturating_add(1);
             }
         }
@@ -43,11 +42,11 @@ impl Counts {
 }
 
 /// Whether the instruction of a record has its value: it is not poisoned, and the record has no error.
-fn is_satisfied(outcome: &Outcome) -> bool {
-    matches!(outcome, Ok(Patched::Written))
+fn is_satisfied(report: &Report) -> bool {
+    matches!(report.outcome, Ok(Patched::Written))
 }
 
-impl<'a, 't> Listing<'a, '_, 't> {
+impl Listing<'_, '_> {
     /// Writes the number of records, and a line for each that the target cannot satisfy.
     pub fn write_summary<W: Write>(
         &self,
@@ -68,21 +67,12 @@ impl<'a, 't> Listing<'a, '_, 't> {
                 )?
             }
         }
-        let mut matches = Matches::new(self.alloc);
         for (relocation, section) in relocations.iter().zip(sections) {
-            let Some(outcomes) = &section.outcomes else {
+            let Some(reports) = &section.outcomes else {
                 continue;
             };
             let name = name_text(self.local, section.name_offset)?;
-            let code = self.code(name.as_str());
-            self.write_unsatisfied(
-                name.as_str(),
-                &code,
-                &relocation.1,
-                outcomes,
-                &mut matches,
-                out,
-            )?;
+            self.write_unsatisfied(name.as_str(), &relocation.1, reports, out)?;
         }
         Ok(())
     }
@@ -91,17 +81,13 @@ impl<'a, 't> Listing<'a, '_, 't> {
     fn write_unsatisfied<W: Write>(
         &self,
         section: &str,
-        code: &Code<'_>,
         records: &[[u32; 4]],
-        outcomes: &[Outcome],
-        matches: &mut Matches<'a, 't>,
+        reports: &[Report],
         out: &mut W,
     ) -> Result<(), Fault> {
-        for (record, outcome) in records.iter().zip(outcomes) {
-            // The types that match an earlier record are the candidates of a later one, so each record is looked up.
-            let entry = self.entry(code, record, outcome, matches)?;
-            if !is_satisfied(outcome) {
-                writeln!(out, "\t{section}: {entry}")?;
+        for (record, report) in records.iter().zip(reports) {
+            if !is_satisfied(report) {
+                writeln!(out, "\t{section}: {}", self.entry(record, report))?;
             }
         }
         Ok(())

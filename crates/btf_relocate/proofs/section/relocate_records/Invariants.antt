@@ -2,8 +2,8 @@
 use Rattle.std.proofs.Common.{drop}
 use Rattle.btf_relocate.specs.Modules.{targets_view}
 use Rattle.btf_relocate.proofs.SectionsAmong.{Continues}
-use Rattle.btf_relocate.proofs.section.relocate_section_among.Given as goal
+use Rattle.btf_relocate.proofs.section.relocate_records.Given as goal
 
 abbrev pub invariant-loop-record : goal.invariant-loop-record
 invariant-loop-record l =
-    Continues l.policy l.local (targets_view l.targets) l.fn.code l.records l.outcomes.items l.shared l.code (drop l.record-index l.records)
+    Continues l.policy l.local (targets_view l.targets) l.fn.left.lists l.fn.code l.records l.reports.items l.left.lists l.code (drop l.record-index l.records)
