@@ -46,4 +46,6 @@ function end_line() {
         line = "\tinsn #" insn ": " spec found ": " result
     }
 }
+# libbpf refuses the object at the record after the last one that it patched.
+/^not loaded$/ { line = "refused" }
 END { end_line() }

@@ -56,6 +56,16 @@ python3 hostile.py
 for object in clang*.bpf*.o; do
     llvm-objdump-19 -d -l -r --no-show-raw-insn "$object" | awk -f lines.awk | LC_ALL=C sort >"$object.objdump"
 done
+# Programs in several sections, and kernels with two structures of one name.
+for programs in 1 2 3 4 5 6; do
+    clang-14 -g $flags -target bpfel -DPROGRAMS=$programs -c shared.c -o clang14.bpfel.shared$programs.o
+    llvm-strip-14 --strip-debug --keep-section=.BTF --keep-section=.BTF.ext clang14.bpfel.shared$programs.o
+done
+for kernel in 1 2 3 4; do
+    clang-14 -g -O2 -target bpfel -DKERNEL=$kernel -c namesakes.c -o kernel.o
+    llvm-objcopy-14 --dump-section .BTF=namesakes$kernel.el.btf kernel.o
+    rm kernel.o
+done
 # Split tables over a base, and what other tools say of them.
 gcc -g -c -fno-eliminate-unused-debug-types base.c -o base.o
 pahole -J base.o
@@ -87,6 +97,12 @@ for object in clang*.bpfe?.reloc.o clang*.bpfe?.prog.o clang*.bpfel.kconfig.o; d
         esac | awk -f core_log.awk >"${object%.o}.kernel$kernel"
     done
 done
+for programs in 1 2 3 4 5 6; do
+    for kernel in 1 2 3 4; do
+        echo "== shared$programs namesakes$kernel"
+        ./core_log.el clang14.bpfel.shared$programs.o namesakes$kernel.el.btf | awk -f core_log.awk
+    done
+done >namesakes.log
 rm core_log.el core_log.eb
 {
     for version in 13 14 15 16 19; do

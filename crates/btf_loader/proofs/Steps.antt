@@ -9,7 +9,7 @@ use Rattle.btf_ext.specs.Relocation.{relocation}
 use Rattle.btf_model.specs.Text.{text_at}
 use Rattle.btf_relocate_model.specs.Modules.{Candidates, KernelSetting, all_candidates}
 use Rattle.btf_relocate.specs.Sections.{is_shared}
-use Rattle.btf_loader_model.specs.Loader.{Outcomes, index_at, left_at, relocated_at, relocated_from, section_at, then_section}
+use Rattle.btf_loader_model.specs.Loader.{Outcomes, index_at, left_at, relocated_at, sections_relocated, section_at, then_section}
 use Rattle.btf_loader_model.specs.Refused.{Reason, BadSectionName, SharedPlace, bad_outcome, reason_from, reason_when, records_reason, section_reason, shared_place, shares_place}
 use Rattle.btf_loader.specs.Results.{code_relocated, left_by, left_by_code, loader_section_reason, loader_setting, outcomes_of, refuses_errors, section_relocated}
 use Rattle.btf_loader.specs.declared.step.Loader.{Loader}
@@ -22,7 +22,7 @@ after_these so_far rest = (so_far ++ rest.0, rest.1)
 module _ (g : KernelSetting) (is_shared : Bool) (o : Object) where
   -- what is made of these sections
   abbrev pub made : {A : Type 0} → (ℕ → Candidates) → List ℕ → List (ℕ × Vec (List ℕ) A) → List (ℕ × Outcomes) × List ℕ
-  made left file all = relocated_from g is_shared o left file (map relocation all)
+  made left file all = sections_relocated g is_shared o left file (map relocation all)
 
   -- the outcomes so far complete the outcomes of the others
   abbrev pub Continues : {A : Type 0} → List ℕ → List (ℕ × Vec (List ℕ) A) → List SectionOutcomes → (ℕ → Candidates) → List ℕ → List (ℕ × Vec (List ℕ) A) → Type 0

@@ -1,7 +1,8 @@
 -- What the steps of the loader return, in the definitions' terms.
-use Rattle.std.specs.Prelude.{ℕ, option_map, Bool, true, false, List, Option, Some, map}
+use Rattle.std.specs.Prelude.{◌≡◌, ℕ, option_map, Bool, true, false, List, Option, Some, map}
 use Rattle.btf_model.specs.Table.{Table}
 use Rattle.btf_relocate_model.specs.Modules.{Candidates, KernelSetting, Targets, left_after_section}
+use Rattle.btf_relocate_model.specs.declared.report.Report.{Report}
 use Rattle.btf_loader_model.specs.Loader.{Outcomes, left_at, relocated_file, relocated_at, section_at, IsRelocatedAmong}
 use Rattle.btf_relocate.specs.Modules.{targets_view}
 use Rattle.btf_loader.specs.declared.step.Loader.{Loader}
@@ -54,6 +55,11 @@ section_relocated loader left file section =
     relocated_at (loader_setting loader) (is_shared loader.policy) left
     (section_at (loader_setting loader) loader.object.now section.0) file section.1
 
+-- the same, where its sections so far have left these candidates
+abbrev pub IsSectionRelocated : Loader → LeftCandidates → List ℕ → ℕ × List (List ℕ) → Outcomes → List ℕ → Type 0
+IsSectionRelocated loader left file section outcomes new =
+    (outcomes, new) ≡ section_relocated loader (left_in loader left) file section
+
 -- the candidates that the section leaves
 abbrev pub left_by : Loader → (ℕ → Candidates) → ℕ × List (List ℕ) → ℕ → Candidates
 left_by loader left section =
@@ -70,6 +76,12 @@ loader_section_reason loader left file section =
 abbrev pub code_relocated : Loader → (ℕ → Candidates) → List ℕ → SectionHeader → List (List ℕ) → Outcomes × List ℕ
 code_relocated loader left file section records =
     relocated_at (loader_setting loader) (is_shared loader.policy) left (Some section) file records
+
+-- the same, where its sections so far have left these candidates
+abbrev pub IsCodeRelocated : Loader → LeftCandidates → List ℕ → SectionHeader → List (List ℕ) → List Report → List ℕ
+    → Type 0
+IsCodeRelocated loader left file section records reports new =
+    (Some reports, new) ≡ code_relocated loader (left_in loader left) file section records
 
 -- the candidates that these records leave
 abbrev pub left_by_code : Loader → (ℕ → Candidates) → List (List ℕ) → ℕ → Candidates

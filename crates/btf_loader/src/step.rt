@@ -9,7 +9,7 @@ ghost use Rattle.btf_loader_model.specs.Refused.{BadRecord, BadSectionName, bad_
 ghost use Rattle.btf_loader.specs.Errors.{Reports};
 ghost use Rattle.btf_loader.specs.Names.{HasIndices};
 ghost use Rattle.btf_loader.specs.Places.{HasPlaces};
-ghost use Rattle.btf_loader.specs.Results.{code_relocated, file_reason, file_relocated, left_by, left_by_code, left_in, loader_setting, outcomes_of, loader_section_reason, section_relocated, refuses_errors};
+ghost use Rattle.btf_loader.specs.Results.{IsCodeRelocated, IsSectionRelocated, file_reason, file_relocated, left_by, left_by_code, left_in, loader_setting, outcomes_of, loader_section_reason, refuses_errors};
 ghost use Rattle.btf_loader.specs.declared.step.Refusals.TheVariants.{Refuse};
 ghost use Rattle.btf_relocate.specs.Sections.{is_shared};
 ghost use Rattle.btf_table.specs.Readable.{IsReadableEnd};
@@ -104,10 +104,8 @@ impl<'a, 'o, 't> Loader<'a, 'o, 't> {
         requires placed { HasPlaces self.now.places.now self.now.object.now.sections }
         requires readable { IfSome self.now.readable_end
             (IsReadableEnd self.now.local.now.strings) }
-        ensures relocated { IfOk result
-            (λ r. (option_map (λ v. v.items) r, file.new)
-            ≡ section_relocated self.now (left_in self.now left.old) file.old
-            (relocation section.now)) }
+        ensures relocated { IfOk result (λ r. IsSectionRelocated self.now left.old file.old
+            (relocation section.now) (option_map (λ v. v.items) r) file.new) }
         ensures left { OnOk result (left_in self.now left.new
             ≡ left_by self.now (left_in self.now left.old) (relocation section.now)) }
         ensures refused { IfOk result (λ r. self.now.refusals ≡ Refuse
@@ -139,9 +137,8 @@ impl<'a, 'o, 't> Loader<'a, 'o, 't> {
         left: &mut LeftCandidates<'a, 't>,
         file: &mut [u8],
     ) -> Result<Vec<Report>, AllocError>
-        ensures relocated { IfOk result (λ v. (Some v.items, file.new)
-            ≡ code_relocated self.now (left_in self.now left.old) file.old section.now
-            records.now) }
+        ensures relocated { IfOk result (λ v. IsCodeRelocated self.now left.old file.old
+            section.now records.now v.items file.new) }
         ensures left { OnOk result (left_in self.now left.new
             ≡ left_by_code self.now (left_in self.now left.old) records.now) }
     {

@@ -2,7 +2,7 @@
 use Rattle.std.specs.Prelude.{◌≡◌, ℕ, Bool, List, [], ◌∷◌, ◌++◌}
 use Rattle.btf_elf_model.specs.Object.{Object}
 use Rattle.btf_relocate_model.specs.Modules.{Candidates, KernelSetting}
-use Rattle.btf_loader_model.specs.Loader.{left_at, relocated_from, section_at}
+use Rattle.btf_loader_model.specs.Loader.{left_at, sections_relocated, section_at}
 
 -- the candidates of each type after these sections of records
 abbrev pub left_after_sections : KernelSetting → Bool → Object → (ℕ → Candidates) → List (ℕ × List (List ℕ)) → ℕ
@@ -17,6 +17,6 @@ abbrev pub SectionsInTurn : Type 0
 SectionsInTurn =
     (g : KernelSetting) (is_shared : Bool) (o : Object) (left : ℕ → Candidates) (file : List ℕ)
     (first second : List (ℕ × List (List ℕ)))
-    → let a = relocated_from g is_shared o left file first in
-    let b = relocated_from g is_shared o (left_after_sections g is_shared o left first) a.1 second in
-    relocated_from g is_shared o left file (first ++ second) ≡ (a.0 ++ b.0, b.1)
+    → let a = sections_relocated g is_shared o left file first in
+    let b = sections_relocated g is_shared o (left_after_sections g is_shared o left first) a.1 second in
+    sections_relocated g is_shared o left file (first ++ second) ≡ (a.0 ++ b.0, b.1)

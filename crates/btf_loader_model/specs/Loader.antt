@@ -76,18 +76,18 @@ then_section s rest = (s ∷ rest.0, rest.1)
 
 -- The outcomes of each section of records, with the string offset of its name, and the file after all of them, where
 -- the sections before them have left these candidates.
-abbrev pub relocated_from : KernelSetting → Bool → Object → (ℕ → Candidates) → List ℕ → List (ℕ × List (List ℕ))
+abbrev pub sections_relocated : KernelSetting → Bool → Object → (ℕ → Candidates) → List ℕ → List (ℕ × List (List ℕ))
     → List (ℕ × Outcomes) × List ℕ
-relocated_from g is_shared o left file [] = ([], file)
-relocated_from g is_shared o left file (s ∷ rest) =
+sections_relocated g is_shared o left file [] = ([], file)
+sections_relocated g is_shared o left file (s ∷ rest) =
     let at = section_at g o s.0 in
     let r = relocated_at g is_shared left at file s.1 in
-    then_section (s.0, r.0) (relocated_from g is_shared o (left_at g is_shared left at s.1) r.1 rest)
+    then_section (s.0, r.0) (sections_relocated g is_shared o (left_at g is_shared left at s.1) r.1 rest)
 
 -- The same from the start, when each type has all its candidates.
 abbrev pub relocated_file : KernelSetting → Bool → Object → List ℕ → List (ℕ × List (List ℕ))
     → List (ℕ × Outcomes) × List ℕ
-relocated_file g is_shared o file sections = relocated_from g is_shared o (all_candidates g) file sections
+relocated_file g is_shared o file sections = sections_relocated g is_shared o (all_candidates g) file sections
 
 -- ---- errors of records
 

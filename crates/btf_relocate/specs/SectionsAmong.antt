@@ -4,7 +4,7 @@ use Rattle.std.specs.BTreeMap.{BTreeMap, get}
 use Rattle.std.specs.Ordering.{nat_cmp}
 use Rattle.btf_model.specs.Table.{Table}
 use Rattle.btf_relocate_model.specs.Modules as model
-use Rattle.btf_relocate_model.specs.Modules.{KernelSetting, all_candidates, candidates_among, first_matched, resolution_among, relocated_section_among}
+use Rattle.btf_relocate_model.specs.Modules.{KernelSetting, all_candidates, candidates_among, first_matched, left_after_section, reported_section, resolution_among, relocated_section_among}
 use Rattle.btf_relocate_model.specs.Section.{patched_outcome, code_after, candidates_after, matched_by, patch_in, report_of}
 use Rattle.btf_relocate_model.specs.declared.error.RelocationError.{RelocationError}
 use Rattle.btf_relocate_model.specs.declared.error.RelocationError.TheVariants.{OutOfMemory}
@@ -36,6 +36,19 @@ setting_among local targets = record { local = local; targets = targets_view tar
 -- the candidates of each type that the records of a program have left
 abbrev pub candidates_left : CandidatePolicy → Table → Targets → LeftCandidates → ℕ → model.Candidates
 candidates_left policy local targets left = left_among policy local (targets_view targets) left.lists
+
+-- what is done for the records of a section, and the code after them, where these candidates are left
+abbrev pub reported_among : CandidatePolicy → Table → Targets → LeftCandidates → List ℕ → List (List ℕ)
+    → List Report × List ℕ
+reported_among policy local targets left code records =
+    reported_section (setting_among local targets) (is_shared policy) (candidates_left policy local targets left)
+    code records
+
+-- the records of a section leave these candidates
+abbrev pub LeavesAfter : CandidatePolicy → Table → Targets → LeftCandidates → LeftCandidates → List (List ℕ) → Type 0
+LeavesAfter policy local targets old new records =
+    candidates_left policy local targets new
+    ≡ left_after_section (setting_among local targets) (is_shared policy) (candidates_left policy local targets old) records
 
 -- no record has removed any
 abbrev pub LeavesAll : LeftCandidates → Type 0

@@ -1,13 +1,13 @@
 //! The records of a section.
 
 ghost use Rattle.std.specs.Prelude.{◌≡◌, map, if◌then◌else◌, None, IfOk, OnOk};
-ghost use Rattle.btf_relocate_model.specs.Modules.{first_matched, left_after_section, reported_section};
+ghost use Rattle.btf_relocate_model.specs.Modules.{first_matched};
 ghost use Rattle.btf_relocate_model.specs.Resolution.{type_word};
 ghost use Rattle.btf_relocate_model.specs.Section.{candidates_of, relocated_section};
 ghost use Rattle.btf_relocate_model.specs.declared.report.Report.{Report as Said};
 ghost use Rattle.btf_relocate.specs.Modules.{candidates_view, targets_view};
 ghost use Rattle.btf_relocate.specs.Sections.{HasOthers, RelocatesSection, is_shared, setting};
-ghost use Rattle.btf_relocate.specs.SectionsAmong.{LeavesAll, PatchedAmong, ReportedAmong, candidates_left, left_among, relocated_among, setting_among};
+ghost use Rattle.btf_relocate.specs.SectionsAmong.{LeavesAfter, LeavesAll, PatchedAmong, ReportedAmong, left_among, relocated_among, reported_among};
 
 use crate::instruction::{instruction_at, patch};
 use crate::lookup::{name_or_none, type_at};
@@ -123,11 +123,9 @@ pub fn relocate_records<'a, 't>(
     left: &mut LeftCandidates<'a, 't>,
 ) -> Result<Vec<Report>, AllocError>
     ensures reported { IfOk result (λ v. (v.items, code.new)
-        ≡ reported_section (setting_among local.now targets.now) (is_shared policy)
-        (candidates_left policy local.now targets.now left.old) code.old records.now) }
-    ensures left { OnOk result (candidates_left policy local.now targets.now left.new
-        ≡ left_after_section (setting_among local.now targets.now) (is_shared policy)
-        (candidates_left policy local.now targets.now left.old) records.now) }
+        ≡ reported_among policy local.now targets.now left.old code.old records.now) }
+    ensures left { OnOk result (LeavesAfter policy local.now targets.now left.old left.new
+        records.now) }
 {
     let mut reports = Vec::with_capacity(alloc, records.len())?;
     for record in records {

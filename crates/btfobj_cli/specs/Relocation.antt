@@ -10,13 +10,13 @@ use Rattle.btfobj_cli.specs.declared.relocation.Ending.{Ending}
 use Rattle.btfobj_cli.specs.declared.relocation.Ending.TheVariants.{Written, Poisoned, Refused}
 
 -- a record poisoned its instruction
-abbrev pub poisons_by : Result Patched RelocationError → Bool
-poisons_by (Ok patched.Written) = false
-poisons_by (Ok patched.Poisoned) = true
-poisons_by (Err error) = false
+abbrev pub is_poison : Result Patched RelocationError → Bool
+is_poison (Ok patched.Written) = false
+is_poison (Ok patched.Poisoned) = true
+is_poison (Err error) = false
 
 abbrev pub is_poisoned : Report → Bool
-is_poisoned report = poisons_by report.outcome
+is_poisoned report = is_poison report.outcome
 
 -- a record of a section poisoned its instruction
 abbrev pub has_poison : Outcomes → Bool
