@@ -1,6 +1,6 @@
 //! The type section: records, one after another.
 
-ghost use Rattle.std.specs.Prelude.{◌≡◌, ◌+◌, ◌*◌, ◌≤◌, ◌++◌, length, map, Ok, OnOk, IfSome};
+ghost use Rattle.std.specs.Prelude.{◌≡◌, ◌≤◌, ◌++◌, length, map, Ok, OnOk};
 ghost use Rattle.std.specs.List.{flat_map, AllByRecursion};
 ghost use Rattle.btf_model.specs.Spelling.{spell, IsWhole};
 ghost use Rattle.btf_model.specs.Table.{no_fallbacks, section_limit};
@@ -8,12 +8,19 @@ ghost use Rattle.btf_plain.specs.Error.{MeetsOrNoMemory, IsOrNoMemory};
 ghost use Rattle.btf_records.specs.BtfType.{record_of, fallback_of};
 ghost use Rattle.btf_table.specs.Records.{ReadsTypes};
 
-use btf_plain::{BtfError, BtfKind, Endianness, Head};
+use btf_plain::{BtfError, Endianness};
 use btf_records::{BtfType, without_fallback};
 use std::alloc::{AllocError, Global};
 
 /// The number of types for which a parsed table or a copy has room beside its own: a rewrite seldom appends more.
 const SPARE: usize = 4;
+
+/// The length in bytes of the records for which a parse first makes room. The records of a kernel's table have 25 to 34
+/// bytes on average, so their vector never grows, which would cost page faults.
+const USUAL_LEN: usize = 22;
+
+/// The length in bytes of the shortest record.
+const LEAST_LEN: usize = 12;
 
 /// The types of a type section, by id; the type of id 0 is first.
 ///
@@ -26,11 +33,11 @@ pub fn read_types(
 ) -> Result<Vec<BtfType>, BtfError>
     ensures { MeetsOrNoMemory (λ v. v.items) result (ReadsTypes endianness «data».now) }
 {
-    // Counted first, because a vector that grows ends with room for up to twice its records.
-    let mut types = Vec::with_capacity(alloc, 1 + count_records(data, endianness) + SPARE)?;
+    let mut types = Vec::with_capacity(alloc, 1 + data.len() / USUAL_LEN + SPARE)?;
     types.push(BtfType::Unknown)?;
     let mut rest = data;
     while !rest.is_empty() {
+        make_room(&mut types, rest)?;
         let size = BtfType::read_onto(&mut types, rest, endianness)?;
         let (_, behind) = rest.split_at(size);
         rest = behind;
@@ -38,26 +45,14 @@ pub fn read_types(
     Ok(types)
 }
 
-/// The number of records at the front of a type section, up to the first one that is truncated or of no known kind.
-fn count_records(data: &[u8], endianness: Endianness) -> usize
-    ensures { 12 * result ≤ length data.now }
+/// Makes room for one more type. A full vector grows once: to the most types that the rest of the section can hold.
+fn make_room(types: &mut Vec<BtfType>, rest: &[u8]) -> Result<(), AllocError>
+    ensures { types.new.items ≡ types.old.items }
 {
-    let mut count = 0;
-    let mut rest = data;
-    while let Some(behind) = after_record(rest, endianness) {
-        count += 1;
-        rest = behind;
+    if types.len() == types.capacity() {
+        types.reserve_exact(rest.len() / LEAST_LEN + SPARE)?;
     }
-    count
-}
-
-/// The bytes after the record at the front of bytes; None if there is no whole record of a known kind.
-fn after_record(bytes: &[u8], endianness: Endianness) -> Option<&[u8]>
-    ensures { IfSome result (λ behind. 12 + length behind.now ≤ length bytes.now) }
-{
-    let (head, _) = Head::read(bytes, endianness).ok()?;
-    let kind = BtfKind::try_from(head.kind()).ok()?;
-    bytes.get(head.record_len(kind)..)
+    Ok(())
 }
 
 /// Appends records to bytes, in this byte order.

@@ -15,7 +15,7 @@ returns-in_err-size c =
 pub loop-rest-preserved : goal.loop-rest-preserved
 loop-rest-preserved c =
     let put = c.in_ok-size.ensures in
-    cut_goes_on c.args.endianness c.args.data.now c.loop-rest.types.items c.read_onto.new.types.items c.loop-rest.rest.now _ put.0 c.in_ok-size.size c.loop-rest.invariant put.2 put.3 put.4 c.split_at.ensures.back put.1
+    cut_goes_on c.args.endianness c.args.data.now c.loop-rest.types.items c.read_onto.new.types.items c.loop-rest.rest.now _ put.0 c.in_ok-size.size c.loop-rest.invariant put.2 put.3 put.4 c.split_at.ensures.back (rw c.make_room.ensures at put.1)
 
 pub split_at-requires : goal.split_at-requires
 split_at-requires c =
