@@ -39,6 +39,12 @@ STATED = (
 # The versions for which each object is rewritten. Each has features that the one before it lacks.
 VERSIONS = ("4.18", "5.2", "5.8", "5.13", "6.0")
 
+# The objects with externs: a DATASEC `.ksyms` or `.kconfig`. Before this one of the versions no kernel has DATASECs, and
+# a rewrite for it has this status.
+WITH_EXTERNS = ("clang14.bpfel.prog.o", "clang14.bpfeb.prog.o", "clang16.bpfel.kconfig.o")
+FIRST_DATASECS = "5.2"
+WITHOUT_EXTERNS = 4
+
 # A rewrite that is refused: the object, the first of the versions, and the error. No object has a section of this name,
 # so a DATASEC of it has a size only after its table is finalized.
 UNFINALIZED = ("clang16.bpfel.kconfig.o", "5.2", "Unable to determine the size of section `.kconfig`")
@@ -149,6 +155,8 @@ COMMAND_LINES = (
     ("sanitize a.o -o 2.o --kernel 6.0 --placeholder x", 1, "", "btfobj: a.o: unknown BTF type `x`\n"),
     ("sanitize a.o -o 3.o --kernel 6.0 --placeholder seen", 0, "", ""),
     ("sanitize a.o --kernel 6.0", 2, "", MISSING + "--output <OUT>\n"),
+    ("sanitize a.o -o 5.o --kernel 5.1", 4, "", "btfobj: a.o: the new table has no DATASEC for the externs of the object,"),
+    ("sanitize b.o -o 6.o --kernel 5.1", 0, "", "btfobj: b.o: the new table has no DATASEC, from which a loader "),
     ("sanitize a.o -o a.btf --kernel 4.18 --table-only", 0, "", ""),
     ("sanitize a.o -o 4.o --has Bpf", 2, "", "error: invalid value 'Bpf' for '--has <FEATURE>'\n"),
     # The table of the running kernel may be missing, and may have any types.

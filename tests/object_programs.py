@@ -202,19 +202,35 @@ def finalized_shown(shown):
     return found
 
 
+def table_shown(order):
+    """Returns a function that shows the table of an object: the words of its types, and its strings."""
+    def shown(new):
+        data_ = elf.section(new, ".BTF").data
+        types_len = int.from_bytes(data_[12:16], order)
+        types, strings = data_[24:24 + types_len], data_[24 + types_len:]
+        if rows.blob(types, strings, order) != data_:
+            return data_.hex()
+        return f"{words_text(types, order)} ; {rows.quoted(strings)}"
+
+    return shown
+
+
 @call
 def finalized(values, data, table, version):
     """The table of an object after it is finalized and rewritten for a version."""
-    def shown(new):
-        data_ = elf.section(new, ".BTF").data
-        types_len = int.from_bytes(data_[12:16], values.order)
-        types, strings = data_[24:24 + types_len], data_[24 + types_len:]
-        if rows.blob(types, strings, values.order) != data_:
-            return data_.hex()
-        return f"{words_text(types, values.order)} ; {rows.quoted(strings)}"
+    return finalized_for(values, data, table, version, "kernel")
 
+
+@call
+def for_loaders(values, data, table, version):
+    """The same as loaders get it."""
+    return finalized_for(values, data, table, version, "loaders")
+
+
+def finalized_for(values, data, table, version, reader):
+    """Returns the call that finalizes an object for a reader."""
     file = elf.with_table(values.data[data], values.data[table])
-    return asks(f"finalized {hexed(file)} {version}", finalized_shown(shown))
+    return asks(f"finalized {hexed(file)} {version} {reader}", finalized_shown(table_shown(values.order)))
 
 
 def kinds_of(data, order):
@@ -239,7 +255,7 @@ def finalized_kinds(values, data, version, *numbers):
         found = kinds_of(elf.section(new, ".BTF").data, values.order)
         return " ".join(KINDS[found[int_of(it)]] for it in numbers)
 
-    return asks(f"finalized {hexed(values.data[data])} {version}", finalized_shown(shown))
+    return asks(f"finalized {hexed(values.data[data])} {version} kernel", finalized_shown(shown))
 
 
 @call

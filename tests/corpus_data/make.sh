@@ -104,6 +104,10 @@ for programs in 1 2 3 4 5 6; do
     done
 done >namesakes.log
 rm core_log.el core_log.eb
+# What libbpf finds of the externs of an object when it opens it.
+for object in clang14.bpfel.prog.o clang16.bpfel.kconfig.o; do
+    python3 ../libbpf_open.py "$object" >"$object.externs"
+done
 {
     for version in 13 14 15 16 19; do
         clang-$version --version | head -n 1

@@ -29,7 +29,7 @@ set_here : {X : Type 0} (xs : List X) (id : ℕ) (x : X) → slice_get xs id ≡
 set_here xs id x is = ap (set xs id) (sym (get_or_from_slice_get xs id x x is)) ∙ set-get_or xs id x
 
 -- a replaced record with the same fallback
-replaced : (old new : Table) (id : ℕ) (r : Record) → slice_get old.fallbacks id ≡ Some None → new ≡ record old { records = set old.records id r; fallbacks = set old.fallbacks id None } → new ≡ with_record old id r
+pub replaced : (old new : Table) (id : ℕ) (r : Record) → slice_get old.fallbacks id ≡ Some None → new ≡ record old { records = set old.records id r; fallbacks = set old.fallbacks id None } → new ≡ with_record old id r
 replaced old new id r at is = is ∙ ap (λ (fs : List (Option Fallback)). record old { records = set old.records id r; fallbacks = fs }) (set_here old.fallbacks id None at)
 
 -- ---- one variable
@@ -117,7 +117,7 @@ has_shape old now id section es i has are = subst (λ (t : Table). HasShapeOf t 
   len = has.3;
 })
 
-types_of : (es : List DataSecEntry) → map (λ (e : Entry). e.type) (map model_entry es) ≡ map type_of es
+pub types_of : (es : List DataSecEntry) → map (λ (e : Entry). e.type) (map model_entry es) ≡ map type_of es
 types_of [] = refl
 types_of (e ∷ es) = ap (λ (xs : List ℕ). e.btf_type ∷ xs) (types_of es)
 

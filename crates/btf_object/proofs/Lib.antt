@@ -7,4 +7,5 @@ pub mod Finalizing
 pub mod FinalSections
 pub mod Externs
 pub mod Globals
+pub mod PutBack
 pub mod Objects

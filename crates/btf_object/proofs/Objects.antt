@@ -14,9 +14,9 @@ use Rattle.btf_elf_model.specs.declared.section_header.SectionHeader.{SectionHea
 use Rattle.btf_rewrite_model.specs.declared.feature.FeatureAnswer.{FeatureAnswer}
 use Rattle.btf_model.specs.Refusal.{Refusal}
 use Rattle.btf_rewrite_model.specs.declared.feature.BtfFeature.{BtfFeature}
-use Rattle.btf_object_model.specs.Finalized.{with_ksyms_size, with_old_sizes}
 use Rattle.btf_object_model.specs.Sanitized.{Target, HasSection, RewritesTable, IsSanitized, table_name}
-use Rattle.btf_object_model.specs.SanitizedFinalized.{RewritesFinalized, IsSanitizedFinalized}
+use Rattle.btf_object_model.specs.SanitizedFinalized.{RewritesFinalized, IsSanitizedFinalized, written_table}
+use Rattle.btf_object_model.specs.declared.reader.TableReader.{TableReader}
 use Rattle.btf_plain.specs.Error.{refusal_of}
 use Rattle.btf_plain.specs.declared.error.BtfError.{BtfError}
 use Rattle.btf_plain.specs.declared.error.BtfError.TheVariants as table
@@ -81,10 +81,10 @@ module _ (bytes : List ℕ) (o : Object) (index : ℕ) (t : List ℕ) (object : 
   }
 
   -- so is the table that was finalized before
-  pub sanitized_finalized : (has : BtfFeature → Bool) (given file : List ℕ) (answers : List FeatureAnswer) → (old base new : Table) × (made : RewritesFinalized o t has old base new answers) × (given ≡ canon (with_old_sizes (with_ksyms_size base made.ids) new)) → HasReplaced o index given file
-      → IsSanitizedFinalized bytes has file answers
-  sanitized_finalized has given file answers m replaced =
-      let Made : List ℕ → Type 0 = λ b. (made : RewritesFinalized o b has m.0 m.1 m.2 answers) × (given ≡ canon (with_old_sizes (with_ksyms_size m.1 made.ids) m.2)) in
+  pub sanitized_finalized : (has : BtfFeature → Bool) (reader : TableReader) (given file : List ℕ) (answers : List FeatureAnswer) → (old base new : Table) × (made : RewritesFinalized o t has reader old base new answers) × (given ≡ canon (written_table reader old base made.ids new)) → HasReplaced o index given file
+      → IsSanitizedFinalized bytes has reader file answers
+  sanitized_finalized has reader given file answers m replaced =
+      let Made : List ℕ → Type 0 = λ b. (made : RewritesFinalized o b has reader m.0 m.1 m.2 answers) × (given ≡ canon (written_table reader m.0 m.1 made.ids m.2)) in
       let here : Made (section_bytes o f.section) = subst Made f.bytes_are (m.3, m.4) in
       record {
         object = o;
@@ -95,5 +95,5 @@ module _ (bytes : List ℕ) (o : Object) (index : ℕ) (t : List ℕ) (object : 
         base = m.1;
         new = m.2;
         table = here.0;
-        replaced = in_place given (canon (with_old_sizes (with_ksyms_size m.1 here.0.ids) m.2)) file here.1 replaced;
+        replaced = in_place given (canon (written_table reader m.0 m.1 here.0.ids m.2)) file here.1 replaced;
       }

@@ -1,5 +1,5 @@
 -- The rewrite of a section's table under the answers to what was asked is the rewrite for the kernel.
-use Rattle.std.proofs.Common.{◌≡◌, ℕ, Bool, List, length, Option, None, Some, Result, Ok, Err, refl, sym, ap, subst, ◌∙◌, inl, inr}
+use Rattle.std.proofs.Common.{◌≡◌, ℕ, Bool, true, false, List, length, Option, None, Some, Result, Ok, Err, refl, sym, ap, subst, ◌∙◌, inl, inr}
 use Rattle.std.specs.Prelude.{IfErr, IfSome, IsErrAnd}
 use Rattle.std.proofs.lemmas.Result.{err_from_is_err_and}
 use Rattle.btf_model.specs.declared.endianness.Endianness.{Endianness}
@@ -24,8 +24,9 @@ use Rattle.btf_rewrite_model.specs.FeatureSet.{answers_of}
 use Rattle.btf_object_model.specs.Ksyms.{FindsKsyms}
 use Rattle.btf_object_model.specs.Layout as model
 use Rattle.btf_object_model.specs.Sanitized.{Target, AreAnswers, RewritesTable, RefusesTable}
-use Rattle.btf_object_model.specs.SanitizedFinalized.{kernel_target, IsOpened, RewritesFinalized, RefusesFinalized}
-use Rattle.btf_object_model.proofs.Opened.{opened_others}
+use Rattle.btf_object_model.specs.SanitizedFinalized.{kernel_target, IsOpened, RewritesFinalized, RefusesFinalized, written_table, takes_placeholder, begun_table, begun_ids, begun_fault}
+use Rattle.btf_object_model.specs.declared.reader.TableReader.{TableReader}
+use Rattle.btf_object_model.proofs.Opened.{opened_others, reader_others}
 use Rattle.btf_plain.specs.Error.{refusal_of}
 use Rattle.btf_plain.specs.declared.error.BtfError.{BtfError}
 use Rattle.btf_rewrite_model.proofs.FeatureSet.{AreOfKernel}
@@ -56,44 +57,53 @@ placeholder_order t ids =
     (by_table (λ (u : Table). u.order ≡ t.order) (appends_int t None) (with_type (c_int (length t.strings)) None (with_string int_text t)) t refl refl)
     refl
 
-module _ (o : Object) (bytes : List ℕ) (has : BtfFeature → Bool) (old base : Table) (layout : Layout) (same : layout ≡ model.object_layout o) (table : IsTable o.header.order bytes old) (opened : IsOpened layout old base) where
+-- so does the begin of a rewrite
+begun_order : (b : Bool) (t : Table) (ids : Option KsymsIds) → (begun_table b t ids).order ≡ t.order
+begun_order true t ids = placeholder_order t ids
+begun_order false t ids = refl
+
+module _ (o : Object) (bytes : List ℕ) (has : BtfFeature → Bool) (reader : TableReader) (old base : Table) (layout : Layout) (same : layout ≡ model.object_layout o) (table : IsTable o.header.order bytes old) (opened : IsOpened layout old base) where
+  abbrev wanted : Bool
+  wanted = takes_placeholder reader has
+
   opened_so : IsOpened (model.object_layout o) old base
   opened_so = subst (λ (l : Layout). IsOpened l old base) same opened
 
   -- the search for `.ksyms` fails
-  pub refuses_ksyms : (refusal : Refusal) → FindsKsyms base None (Err refusal) → RefusesFinalized o bytes has refusal
+  pub refuses_ksyms : (refusal : Refusal) → FindsKsyms base None (Err refusal) → RefusesFinalized o bytes has reader refusal
   refuses_ksyms refusal finds = inr (old, base, table, opened_so, inl finds)
 
   module _ (ids : Option KsymsIds) (ksyms : FindsKsyms base None (Ok ids)) where
     -- the placeholder does not fit
-    pub refuses_placeholder : (refusal : Refusal) → Err refusal ≡ checked (placeholder_fault base ids) (with_placeholder_id base ids) → RefusesFinalized o bytes has refusal
-    refuses_placeholder refusal is = inr (old, base, table, opened_so, inr (ids, ksyms, inl (checked_err (placeholder_fault base ids) (with_placeholder_id base ids) refusal is)))
+    pub refuses_placeholder : (refusal : Refusal) → Err refusal ≡ checked (begun_fault wanted base ids) (begun_ids wanted base ids) → RefusesFinalized o bytes has reader refusal
+    refuses_placeholder refusal is = inr (old, base, table, opened_so, inr (ids, ksyms, inl (checked_err (begun_fault wanted base ids) (begun_ids wanted base ids) refusal is)))
 
-    module _ (begun : Table) (given : Option KsymsIds) (begun_is : begun ≡ with_placeholder base ids) (given_is : Ok given ≡ checked (placeholder_fault base ids) (with_placeholder_id base ids)) where
-      fits : (placeholder_fault base ids ≡ None) × (given ≡ with_placeholder_id base ids)
-      fits = checked_ok (placeholder_fault base ids) (with_placeholder_id base ids) given given_is
+    module _ (begun : Table) (given : Option KsymsIds) (begun_is : begun ≡ begun_table wanted base ids) (given_is : Ok given ≡ checked (begun_fault wanted base ids) (begun_ids wanted base ids)) where
+      fits : (begun_fault wanted base ids ≡ None) × (given ≡ begun_ids wanted base ids)
+      fits = checked_ok (begun_fault wanted base ids) (begun_ids wanted base ids) given given_is
 
       -- what is known under these tables and ids is known under those of the definitions
-      known_so : (P : Table → Option KsymsIds → Layout → Type 0) → P begun given layout → P (with_placeholder base ids) (with_placeholder_id base ids) (model.object_layout o)
+      known_so : (P : Table → Option KsymsIds → Layout → Type 0) → P begun given layout → P (begun_table wanted base ids) (begun_ids wanted base ids) (model.object_layout o)
       known_so P known =
-          subst (P (with_placeholder base ids) (with_placeholder_id base ids)) same
-          (subst (λ (i : Option KsymsIds). P (with_placeholder base ids) i layout) fits.1 (subst (λ (t : Table). P t given layout) begun_is known))
+          subst (P (begun_table wanted base ids) (begun_ids wanted base ids)) same
+          (subst (λ (i : Option KsymsIds). P (begun_table wanted base ids) i layout) fits.1 (subst (λ (t : Table). P t given layout) begun_is known))
 
       -- the rewrite is refused
-      pub refuses_rewrite : (refusal : Refusal) → IsRefused FillSized begun given layout (answers_of has) refusal → RefusesFinalized o bytes has refusal
+      pub refuses_rewrite : (refusal : Refusal) → IsRefused FillSized begun given layout (answers_of has) refusal → RefusesFinalized o bytes has reader refusal
       refuses_rewrite refusal is =
           inr (old, base, table, opened_so, inr (ids, ksyms, inr (fits.0, known_so (λ t i l. IsRefused FillSized t i l (answers_of has) refusal) is)))
 
       -- the rewrite succeeds, and the sizes are set
-      pub rewrites_finalized : (new made : Table) (answers : List FeatureAnswer) (given_bytes : List ℕ) → Rewritten FillSized begun given layout (answers_of has) new → AreAnswers (kernel_target has) (Asked (pass_of FillSized begun given layout answers)) answers
-          → new.order ≡ begun.order → made ≡ with_old_sizes (with_ksyms_size base ids) new → given_bytes ≡ canon made → IsTable made.order given_bytes (strip made)
-          → (all : RewritesFinalized o bytes has old base new answers) × (given_bytes ≡ canon (with_old_sizes (with_ksyms_size base all.ids) new))
+      pub rewrites_finalized : (new made : Table) (answers : List FeatureAnswer) (given_bytes : List ℕ) → Rewritten FillSized begun given layout (answers_of has) new
+          → AreAnswers (kernel_target has) (Asked (pass_of FillSized begun given layout answers)) answers → new.order ≡ begun.order → made ≡ written_table reader old base ids new → given_bytes ≡ canon made → IsTable made.order given_bytes (strip made)
+          → (all : RewritesFinalized o bytes has reader old base new answers) × (given_bytes ≡ canon (written_table reader old base all.ids new))
       rewrites_finalized new made answers given_bytes is are order made_is written again =
           let order_is : made.order ≡ o.header.order =
-          ap (λ (t : Table). t.order) made_is ∙ order ∙ ap (λ (t : Table). t.order) begun_is ∙ placeholder_order base ids ∙ ap (λ (t : Table). t.order) (opened_others layout old base opened) ∙ table.same_order in
-          let bytes_are : given_bytes ≡ canon (with_old_sizes (with_ksyms_size base ids) new) = written ∙ ap canon made_is in
-          let read : IsTable o.header.order (canon (with_old_sizes (with_ksyms_size base ids) new)) (strip (with_old_sizes (with_ksyms_size base ids) new)) =
-          subst (λ (t : Table). IsTable o.header.order (canon (with_old_sizes (with_ksyms_size base ids) new)) (strip t)) made_is
+          ap (λ (t : Table). t.order) made_is ∙ ap (λ (t : Table). t.order) (reader_others reader old (with_old_sizes (with_ksyms_size base ids) new)) ∙ order ∙ ap (λ (t : Table). t.order) begun_is ∙ begun_order wanted base ids
+          ∙ ap (λ (t : Table). t.order) (opened_others layout old base opened) ∙ table.same_order in
+          let bytes_are : given_bytes ≡ canon (written_table reader old base ids new) = written ∙ ap canon made_is in
+          let read : IsTable o.header.order (canon (written_table reader old base ids new)) (strip (written_table reader old base ids new)) =
+          subst (λ (t : Table). IsTable o.header.order (canon (written_table reader old base ids new)) (strip t)) made_is
           (subst (λ (b : List ℕ). IsTable o.header.order b (strip made)) bytes_are (subst (λ (e : Endianness). IsTable e given_bytes (strip made)) order_is again)) in (
             record {
               ids = ids;

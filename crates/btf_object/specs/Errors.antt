@@ -1,5 +1,5 @@
 -- Why an object is not rewritten, as the code reports it.
-use Rattle.std.specs.Prelude.{◌≡◌, ℕ, ⊤, Bool, List, Option, Some, None}
+use Rattle.std.specs.Prelude.{◌≡◌, ℕ, ⊤, Bool, List, Option, Some, None, Result}
 use Rattle.std.specs.Borrow.{Bor}
 use Rattle.std.specs.Option.{option_map}
 use Rattle.btf_model.specs.Refusal.{Refusal}
@@ -16,7 +16,9 @@ use Rattle.btf_rewrite_model.specs.declared.feature.BtfFeature.{BtfFeature}
 use Rattle.btf_rewrite_model.specs.declared.feature.FeatureAnswer.{FeatureAnswer}
 use Rattle.btf_rewrite_model.specs.declared.feature.FillPolicy.{FillPolicy}
 use Rattle.btf_object_model.specs.Sanitized.{Target, HasSection, RewritesTable, RefusesTable, first_section_index, table_name, AreAnswers}
-use Rattle.btf_object_model.specs.SanitizedFinalized.{RewritesFinalized, RefusesFinalized}
+use Rattle.btf_object_model.specs.SanitizedFinalized.{RewritesFinalized, RefusesFinalized, written_table, takes_placeholder, begun_fault, begun_ids}
+use Rattle.btf_table.specs.Checked.{checked}
+use Rattle.btf_object_model.specs.declared.reader.TableReader.{TableReader}
 use Rattle.btf_plain.specs.Error.{refusal_of}
 use Rattle.btf_plain.specs.declared.error.BtfError.{BtfError}
 use Rattle.btf_plain.specs.declared.error.BtfError.TheVariants as table
@@ -25,7 +27,6 @@ use Rattle.btf_object.specs.declared.kernel.Kernel.{Kernel}
 use Rattle.btf_object.specs.declared.error.SanitizeError.{SanitizeError}
 use Rattle.btf_object.specs.declared.error.SanitizeError.TheVariants.{Object, NoTable, Table as TableError, Section, OutOfMemory}
 use Rattle.btf_model.specs.Blob.{canon}
-use Rattle.btf_object_model.specs.Finalized.{with_ksyms_size, with_old_sizes}
 use Rattle.btf_rewrite_model.specs.Pass.{Layout, Asked}
 use Rattle.btf_rewrite_model.specs.Rewritten.{pass_of}
 use Rattle.btf_rewrite_model.specs.declared.ksyms_ids.KsymsIds.{KsymsIds}
@@ -92,19 +93,26 @@ abbrev pub IsSanitizeCause : List ℕ → Target → SanitizeError → Type 0
 IsSanitizeCause bytes target e = IsCauseBy (RefusesFor target) (RewritesFor target) bytes e
 
 -- The table of a section is refused for a kernel with these features, or is finalized and rewritten for it.
-abbrev pub RefusesFinalizedFor : (BtfFeature → Bool) → elf.Object → List ℕ → Refusal → Type 0
-RefusesFinalizedFor has o table refusal = RefusesFinalized o table has refusal
+abbrev pub RefusesFinalizedFor : (BtfFeature → Bool) → TableReader → elf.Object → List ℕ → Refusal → Type 0
+RefusesFinalizedFor has reader o table refusal = RefusesFinalized o table has reader refusal
 
-abbrev pub RewritesFinalizedFor : (BtfFeature → Bool) → elf.Object → List ℕ → Type 0
-RewritesFinalizedFor has o table =
-    (old base new : Table) × (answers : List FeatureAnswer) × RewritesFinalized o table has old base new answers
+abbrev pub RewritesFinalizedFor : (BtfFeature → Bool) → TableReader → elf.Object → List ℕ → Type 0
+RewritesFinalizedFor has reader o table =
+    (old base new : Table) × (answers : List FeatureAnswer) × RewritesFinalized o table has reader old base new answers
 
 -- why an object is not finalized and rewritten for a kernel with these features
-abbrev pub IsFinalizedCause : List ℕ → (BtfFeature → Bool) → SanitizeError → Type 0
-IsFinalizedCause bytes has e = IsCauseBy (RefusesFinalizedFor has) (RewritesFinalizedFor has) bytes e
+abbrev pub IsFinalizedCause : List ℕ → (BtfFeature → Bool) → TableReader → SanitizeError → Type 0
+IsFinalizedCause bytes has reader e = IsCauseBy (RefusesFinalizedFor has reader) (RewritesFinalizedFor has reader) bytes e
 
--- The blob is that of the table of an object that is finalized and rewritten for a kernel with these features.
-abbrev pub IsFinalizedBlob : elf.Object → List ℕ → (BtfFeature → Bool) → List ℕ → List FeatureAnswer → Type 0
-IsFinalizedBlob o table has blob answers =
-    (old base new : Table) × (made : RewritesFinalized o table has old base new answers)
-    × (blob ≡ canon (with_old_sizes (with_ksyms_size base made.ids) new))
+-- the ids of `.ksyms` with which the rewrite of a table begins, or why the placeholder does not fit
+abbrev pub begins_with : TableReader → (BtfFeature → Bool) → Table → Option KsymsIds → Result (Option KsymsIds) Refusal
+begins_with reader has t ids =
+    checked (begun_fault (takes_placeholder reader has) t ids) (begun_ids (takes_placeholder reader has) t ids)
+
+-- The blob is that of the table of an object that is finalized and rewritten for a kernel with these features, as this
+-- reader gets it.
+abbrev pub IsFinalizedBlob : elf.Object → List ℕ → (BtfFeature → Bool) → TableReader → List ℕ → List FeatureAnswer
+    → Type 0
+IsFinalizedBlob o table has reader blob answers =
+    (old base new : Table) × (made : RewritesFinalized o table has reader old base new answers)
+    × (blob ≡ canon (written_table reader old base made.ids new))

@@ -4,4 +4,5 @@ pub mod Names
 pub mod Ksyms
 pub mod Finalize
 pub mod Kconfig
+pub mod Externs
 pub mod Errors

@@ -1,5 +1,6 @@
 //! A table that is finalized from its object, as a loader does before it rewrites the table for a kernel.
 
+mod externs;
 mod kconfig;
 mod known;
 mod placeholder;
@@ -12,6 +13,7 @@ ghost use Rattle.btf_object_model.specs.Finalized.{IsFinalized};
 ghost use Rattle.btf_object_model.specs.SanitizedFinalized.{IsOpened};
 ghost use Rattle.btf_object.specs.Finalize.{AreNamesCached, FinalizesAt, layout_in};
 
+pub use crate::finalize::externs::{has_externs, put_externs};
 use crate::finalize::kconfig::configure;
 use crate::finalize::known::KnownNames;
 pub use crate::finalize::placeholder::add_placeholder;

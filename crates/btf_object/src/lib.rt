@@ -14,8 +14,10 @@ mod sanitize;
 mod table;
 mod version;
 
+pub use btf_object_model::TableReader;
 pub use btf_rewrite_model::{BtfFeature, FeatureAnswer, FillPolicy, KsymsIds};
 pub use error::SanitizeError;
+pub use finalize::has_externs;
 pub use kernel::Kernel;
 pub use ksyms::ksyms_of;
 pub use layout::ObjectLayout;

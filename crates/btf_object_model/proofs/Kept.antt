@@ -1,5 +1,5 @@
 -- A rewritten object retains the contents of `.BTF.ext`.
-use Rattle.std.proofs.Common.{◌≡◌, ◌≢◌, ℕ, ◌<◌, List, [], ◌∷◌, ◌++◌, length, append_assoc, Bool, true, Option, None, Some, Ok, refl, sym, ap, subst, ◌∙◌, arith}
+use Rattle.std.proofs.Common.{◌≡◌, ◌≢◌, ℕ, ◌<◌, List, [], ◌∷◌, ◌++◌, length, append_assoc, Bool, true, Option, None, Some, Ok, refl, sym, ap, subst, ◌∙◌, arith, false}
 use Rattle.std.specs.Prelude.{position, slice_get, slice_set, unwrap_or, nat_lt, if◌then◌else◌}
 use Rattle.std.specs.List.{position_or_len}
 use Rattle.std.proofs.lemmas.List.Folds.{position_or_len-set}
@@ -33,12 +33,13 @@ use Rattle.btf_rewrite_model.specs.declared.ksyms_ids.KsymsIds.{KsymsIds}
 use Rattle.btf_rewrite_model.specs.FeatureSet.{answers_of}
 use Rattle.btf_object_model.specs.Layout.{object_layout}
 use Rattle.btf_object_model.specs.Finalized.{placeholder_text, with_int, with_variable, has_functions, with_placeholder, with_placeholder_id, with_ksyms_size, with_old_sizes}
-use Rattle.btf_object_model.specs.SanitizedFinalized.{RewritesFinalized, IsSanitizedFinalized}
+use Rattle.btf_object_model.specs.SanitizedFinalized.{RewritesFinalized, IsSanitizedFinalized, written_table, takes_placeholder, begun_table, begun_ids}
+use Rattle.btf_object_model.specs.declared.reader.TableReader.{TableReader}
 use Rattle.btf_object_model.specs.Laws.{HasSameContents, KeepsExt}
 use Rattle.btf_object_model.specs.Sanitized.{Target, HasSection, IsSanitized, first_section_index, table_name, ext_name}
 use Rattle.btf_object_model.proofs.Appended.{texts_stay}
 use Rattle.btf_object_model.proofs.Exts.{contents_ok, contents_err}
-use Rattle.btf_object_model.proofs.Opened.{opened_others}
+use Rattle.btf_object_model.proofs.Opened.{opened_others, reader_others}
 
 -- the contents do not change if no readable text changes
 contents_stay : (old new : Table) → ((offset : ℕ) (text : List ℕ) → text_at old.strings offset ≡ Ok text → text_at new.strings offset ≡ Ok text) → (order : Endianness) (bytes : List ℕ) → HasSameContents order bytes old new
@@ -212,26 +213,34 @@ placeholder_strings t ids =
     ([], sym (append-nil t.strings))))
     ([], sym (append-nil t.strings))
 
+-- so does the begin of a rewrite
+begun_strings : (b : Bool) (t : Table) (ids : Option KsymsIds) → (more : List ℕ) × ((begun_table b t ids).strings ≡ t.strings ++ more)
+begun_strings true t ids = placeholder_strings t ids
+begun_strings false t ids = ([], sym (append-nil t.strings))
+
 -- the strings of a table that is finalized are those of the old table, and more
-final_texts_stay : (has : BtfFeature → Bool) (o : Object) (bytes : List ℕ) (given base new : Table) (answers : List FeatureAnswer) (r : RewritesFinalized o bytes has given base new answers)
-    → (offset : ℕ) (text : List ℕ) → text_at given.strings offset ≡ Ok text → text_at (with_old_sizes (with_ksyms_size base r.ids) new).strings offset ≡ Ok text
-final_texts_stay has o bytes given base new answers r offset text reads =
-    let more = placeholder_strings base r.ids in
+final_texts_stay : (has : BtfFeature → Bool) (reader : TableReader) (o : Object) (bytes : List ℕ) (given base new : Table) (answers : List FeatureAnswer) (r : RewritesFinalized o bytes has reader given base new answers)
+    → (offset : ℕ) (text : List ℕ) → text_at given.strings offset ≡ Ok text → text_at (written_table reader given base r.ids new).strings offset ≡ Ok text
+final_texts_stay has reader o bytes given base new answers r offset text reads =
+    let b : Bool = takes_placeholder reader has in
+    let more = begun_strings b base r.ids in
     let same : base.strings ≡ given.strings = ap (λ (t : Table). t.strings) (opened_others (object_layout o) given base r.opened) in
-    texts_stay FillSized (with_placeholder base r.ids) new (with_placeholder_id base r.ids) (object_layout o) (answers_of has) r.rewritten offset text
+    let written : (written_table reader given base r.ids new).strings ≡ new.strings = ap (λ (t : Table). t.strings) (reader_others reader given (with_old_sizes (with_ksyms_size base r.ids) new)) in
+    ap (λ (xs : List ℕ). text_at xs offset) written
+    ∙ texts_stay FillSized (begun_table b base r.ids) new (begun_ids b base r.ids) (object_layout o) (answers_of has) r.rewritten offset text
     (ap (λ (xs : List ℕ). text_at xs offset) more.1 ∙ text_stays base.strings more.0 offset text (ap (λ (xs : List ℕ). text_at xs offset) same ∙ reads))
 
-pub finalized_keeps_ext : (bytes file : List ℕ) (has : BtfFeature → Bool) (answers : List FeatureAnswer) → IsSanitizedFinalized bytes has file answers → (o : Object) (index : ℕ) (s : SectionHeader) → HasSection bytes ext_name o index s
+pub finalized_keeps_ext : (bytes file : List ℕ) (has : BtfFeature → Bool) (reader : TableReader) (answers : List FeatureAnswer) → IsSanitizedFinalized bytes has reader file answers → (o : Object) (index : ℕ) (s : SectionHeader) → HasSection bytes ext_name o index s
     → (new : Object) × KeepsExt bytes file o new index s
-finalized_keeps_ext bytes file has answers z = rewritten_keeps_ext bytes file (record {
+finalized_keeps_ext bytes file has reader answers z = rewritten_keeps_ext bytes file (record {
   object = z.object;
   index = z.index;
   header = z.header;
   section = z.section;
   old = z.old;
-  new = with_old_sizes (with_ksyms_size z.base z.table.ids) z.new;
+  new = written_table reader z.old z.base z.table.ids z.new;
   table = z.table.table;
   written = z.table.written;
-  stays = final_texts_stay has z.object (section_bytes z.object z.header) z.old z.base z.new answers z.table;
+  stays = final_texts_stay has reader z.object (section_bytes z.object z.header) z.old z.base z.new answers z.table;
   replaced = z.replaced;
 })

@@ -1,5 +1,5 @@
--- When a loader opens an object, only records of its table change.
-use Rattle.std.proofs.Common.{◌≡◌, ℕ, ◌^◌, Bool, true, false, List, [], ◌∷◌, map, Option, None, Some, Result, Ok, Err, refl, sym, ap, ◌∙◌}
+-- When a loader opens an object, only records of its table change; and so when its externs are put back.
+use Rattle.std.proofs.Common.{◌≡◌, ℕ, zero, suc, length, ◌&&◌, ◌^◌, Bool, true, false, List, [], ◌∷◌, map, Option, None, Some, Result, Ok, Err, refl, sym, ap, ◌∙◌}
 use Rattle.std.specs.Prelude.{◌==◌, nat_lt, if◌then◌else◌}
 use Rattle.btf_model.specs.Record.{Record}
 use Rattle.btf_model.specs.Refusal.{Refusal}
@@ -9,6 +9,9 @@ use Rattle.btf_rewrite_model.specs.Pass.{Layout}
 use Rattle.btf_rewrite_model.proofs.Kept.{by_table}
 use Rattle.btf_object_model.specs.Kconfig.{Extern, with_record, with_globals, made_global, total, with_externs, LaysOut, ConfiguresIf, ConfiguresAt}
 use Rattle.btf_object_model.specs.SanitizedFinalized.{IsOpened}
+use Rattle.btf_object_model.specs.Externs.{is_still_extern, with_old_extern, with_old_externs, has_externs, is_still_section, entry_types, with_old_section, with_old_sections, for_reader}
+use Rattle.btf_object_model.specs.declared.reader.TableReader.{TableReader}
+use Rattle.btf_object_model.specs.declared.reader.TableReader.TheVariants.{Kernel, Loaders}
 
 -- only records differ
 abbrev pub OnlyRecords : Table → Table → Type 0
@@ -41,3 +44,33 @@ configured_at_others t (Err refusal) u same = same_table t u same
 
 pub opened_others : (layout : Layout) (old u : Table) → IsOpened layout old u → OnlyRecords old u
 opened_others layout old u z = z.2.others ∙ ap (λ (t : Table). record t { records = u.records }) (configured_at_others old z.1.0 z.0 z.1.2)
+
+-- ---- the externs of the old table
+
+old_extern_others : (old : Table) (id : ℕ) (t : Table) → OnlyRecords t (with_old_extern old id t)
+old_extern_others old id t = by_table (OnlyRecords t) (is_still_extern (kind_at old id) (kind_at t id)) (with_record t id (record_at old id)) t refl refl
+
+after : (t u v : Table) → OnlyRecords t u → OnlyRecords u v → OnlyRecords t v
+after t u v first second = second ∙ ap (λ (w : Table). record w { records = v.records }) first
+
+old_externs_others : (old : Table) (ids : List ℕ) (t : Table) → OnlyRecords t (with_old_externs old ids t)
+old_externs_others old [] t = refl
+old_externs_others old (id ∷ ids) t =
+    after t (with_old_extern old id t) (with_old_externs old ids (with_old_extern old id t)) (old_extern_others old id t) (old_externs_others old ids (with_old_extern old id t))
+
+old_section_others : (old : Table) (id : ℕ) (t : Table) → OnlyRecords t (with_old_section old id t)
+old_section_others old id t =
+    let section : Record = record_at old id in
+    let put : Table = with_record t id section in
+    by_table (OnlyRecords t) (has_externs old section && is_still_section section (record_at t id)) (with_old_externs old (entry_types section) put) t
+    (after t put (with_old_externs old (entry_types section) put) refl (old_externs_others old (entry_types section) put))
+    refl
+
+old_sections_others : (old : Table) (n : ℕ) (t : Table) → OnlyRecords t (with_old_sections old n t)
+old_sections_others old zero t = refl
+old_sections_others old (suc id) t =
+    after t (with_old_sections old id t) (with_old_section old id (with_old_sections old id t)) (old_sections_others old id t) (old_section_others old id (with_old_sections old id t))
+
+pub reader_others : (reader : TableReader) (old t : Table) → OnlyRecords t (for_reader reader old t)
+reader_others Kernel old t = refl
+reader_others Loaders old t = old_sections_others old (length old.records) t

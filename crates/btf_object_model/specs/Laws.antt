@@ -16,6 +16,7 @@ use Rattle.btf_rewrite_model.specs.declared.feature.FillPolicy.{FillPolicy}
 use Rattle.btf_rewrite_model.specs.declared.ksyms_ids.KsymsIds.{KsymsIds}
 use Rattle.btf_object_model.specs.Finalized.{IsFinalized}
 use Rattle.btf_object_model.specs.SanitizedFinalized.{IsOpened, IsSanitizedFinalized}
+use Rattle.btf_object_model.specs.declared.reader.TableReader.{TableReader}
 use Rattle.btf_object_model.specs.Sanitized.{Target, HasSection, IsSanitized, table_name, ext_name}
 
 -- A text that can be read at an offset of a table's strings is read at the same offset of the rewritten table.
@@ -59,8 +60,8 @@ SanitizedKeepsExt =
 -- The same for an object whose table is finalized and then rewritten.
 abbrev pub FinalizedKeepsExt : Type 0
 FinalizedKeepsExt =
-    (bytes file : List ℕ) (has : BtfFeature → Bool) (answers : List FeatureAnswer)
-    → IsSanitizedFinalized bytes has file answers
+    (bytes file : List ℕ) (has : BtfFeature → Bool) (reader : TableReader) (answers : List FeatureAnswer)
+    → IsSanitizedFinalized bytes has reader file answers
     → (o : Object) (index : ℕ) (s : SectionHeader) → HasSection bytes ext_name o index s
     → (new : Object) × KeepsExt bytes file o new index s
 

@@ -4,8 +4,10 @@ pub mod Kernel
 pub mod Sanitized
 pub mod Finalized
 pub mod Kconfig
+pub mod Externs
 pub mod SanitizedFinalized
 pub mod Laws
 pub mod Examples
 pub mod FinalizedExamples
 pub mod KconfigExamples
+pub mod ExternsExamples

@@ -6,8 +6,10 @@
 
 ghost use Rattle.btf_object_model.specs.Laws.{TextsStay, ExtStays, SanitizedKeepsExt, FinalizedKeepsExt, IsFinalizedOnce, IsOpenedOnce};
 
+mod reader;
 mod version;
 
+pub use reader::TableReader;
 pub use version::Version;
 
 /// A text that can be read in a table is read at the same offset of the rewritten table.

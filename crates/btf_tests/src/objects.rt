@@ -4,7 +4,8 @@ use crate::words::{FEATURES, Words};
 use btf_elf::Object;
 use btf_loader::{CandidatePolicy, Refusals, Target, prepare_object};
 use btf_object::{
-    FillPolicy, Kernel, ObjectLayout, ksyms_of, sanitize_finalized, sanitize_object_with,
+    FillPolicy, Kernel, ObjectLayout, TableReader, ksyms_of, sanitize_finalized,
+    sanitize_object_with,
 };
 use std::fmt::Write;
 use std::hash::{BuildHasherDefault, FoldHasher};
@@ -104,13 +105,23 @@ pub fn sanitized(words: &mut Words<'_>) -> anyhow::Result<String> {
     Ok(hex::encode(alloc, new)?)
 }
 
-/// `finalized FILE VERSION`: the same after its table is finalized, and whether this is the same of the result.
+/// Who reads the table of a rewritten object.
+fn reader_named(word: &str) -> TableReader {
+    match word {
+        "loaders" => TableReader::Loaders,
+        _ => TableReader::Kernel,
+    }
+}
+
+/// `finalized FILE VERSION kernel|loaders`: the same for this reader after its table is finalized, and whether this is
+/// the same of the result.
 pub fn finalized(words: &mut Words<'_>) -> anyhow::Result<String> {
     let alloc = words.alloc;
     let file = words.bytes()?;
     let kernel = kernel_of(words.word());
-    let (new, _) = sanitize_finalized(alloc, &file, &kernel, fixed_keys())?;
-    let (again, _) = sanitize_finalized(alloc, &new, &kernel, fixed_keys())?;
+    let reader = reader_named(words.word());
+    let (new, _) = sanitize_finalized(alloc, &file, &kernel, reader, fixed_keys())?;
+    let (again, _) = sanitize_finalized(alloc, &new, &kernel, reader, fixed_keys())?;
     let same = again == new;
     let digits = hex::encode(alloc, new)?;
     Ok(format!(in alloc; "{same} {}", digits.as_str())?)

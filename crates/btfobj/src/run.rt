@@ -9,8 +9,8 @@ use btf_rewrite_model::{BtfFeature, FeatureAnswer};
 use btf_table::Btf;
 use btf_text::Selection;
 use btfobj_cli::{
-    Ending, Fault, InputFile, Request, Rewrite, check, compat, dump, ext, header, layout,
-    running_base, sanitize, table_alone,
+    Ending, Fault, InputFile, Request, Rewrite, check, compat, dump, ext, file_has_externs, header,
+    layout, running_base, sanitize, table_alone,
 };
 use std::alloc::Global;
 use std::hash::RandomState;
@@ -23,8 +23,14 @@ const CLOSED_PIPE: u8 = 141;
 
 /// What a loader of an object misses if the kernel has no DATASECs.
 const NO_SECTIONS: &str =
-    "the new table has no DATASEC, from which a loader such as libbpf reads maps and externs; \
+    "the new table has no DATASEC, from which a loader such as libbpf reads maps; \
      --table-only writes the table for the kernel, and leaves the object to the loader";
+
+/// What a loader of an object with externs misses if the kernel has no DATASECs.
+const LOST_EXTERNS: &str =
+    "the new table has no DATASEC for the externs of the object, so a loader that needs externs, such \
+     as libbpf, cannot open the new object; --table-only writes the table for the kernel, and leaves \
+     the object to the loader";
 
 /// The error of a request: the file, and its error.
 #[derive(Drop)]
@@ -55,6 +61,9 @@ impl fmt::Display for Failure<'_> {
 /// The status of a relocation that poisons an instruction.
 const POISONED: u8 = 3;
 
+/// The status of a rewrite that writes an object without its externs.
+const WITHOUT_EXTERNS: u8 = 4;
+
 /// The answer of a request without an error.
 #[derive(Clone, Copy)]
 pub enum Answer {
@@ -64,6 +73,8 @@ pub enum Answer {
     No,
     /// An instruction was poisoned.
     Poisoned,
+    /// The new object lacks the externs of the old one.
+    WithoutExterns,
 }
 
 impl From<bool> for Answer {
@@ -83,13 +94,14 @@ impl From<Ending> for Answer {
 }
 
 /// Carries out a request, and returns the status: 0 on success, 1 for an error or a negative check, 3 for a poisoned
-/// instruction, and 141 if the reader of standard output closed it.
+/// instruction, 4 for an object that lacks its externs, and 141 if the reader of standard output closed it.
 pub fn carry_out(rt: &HostRuntime, request: &Request<'_>) -> ExitCode {
     let mut out = Output::new(rt);
     match answer_request(rt, request, &mut out) {
         Ok(Answer::Yes) => ExitCode::SUCCESS,
         Ok(Answer::No) => ExitCode::FAILURE,
         Ok(Answer::Poisoned) => ExitCode::from(POISONED),
+        Ok(Answer::WithoutExterns) => ExitCode::from(WITHOUT_EXTERNS),
         Err(failure) => report(rt, &failure, out.into_failure()),
     }
 }
@@ -141,7 +153,7 @@ fn answer_request<'a>(
             output,
             rewrite,
             is_table_only,
-        } => write_sanitized(rt, file, output, rewrite, *is_table_only, out)?,
+        } => return write_sanitized(rt, file, output, rewrite, *is_table_only, out),
         Request::Compat {
             local,
             target,
@@ -272,24 +284,41 @@ pub fn blame<'a, T>(file: &'a str, outcome: Result<T, Fault>) -> Result<T, Failu
     }
 }
 
-/// The bytes of a rewritten file, or of its table alone.
+/// The bytes of a rewritten file, or of its table alone, and whether a new object lacks the externs of the old one.
 fn sanitize_file<'a>(
     rt: &HostRuntime,
     file: &'a str,
     rewrite: &Rewrite<'_>,
     is_table_only: bool,
-) -> Result<Vec<u8>, Failure<'a>> {
+) -> Result<(Vec<u8>, Answer), Failure<'a>> {
     let bytes = read(rt, file)?;
     let keys = hasher(rt, file)?;
     let (written, answers) = blame(file, sanitize(rt.alloc(), &bytes, rewrite, keys))?;
     if is_table_only {
-        return blame(file, table_alone(rt.alloc(), &written));
+        let table = blame(file, table_alone(rt.alloc(), &written))?;
+        return Ok((table, Answer::Yes));
     }
-    if bytes.starts_with(b"\x7fELF") && lacks_sections(&answers) {
-        // An error of standard error cannot be reported.
-        let _ = eprintln!(rt; "btfobj: {file}: {NO_SECTIONS}");
+    if !bytes.starts_with(b"\x7fELF") || !lacks_sections(&answers) {
+        return Ok((written, Answer::Yes));
     }
-    Ok(written)
+    let answer = report_sections(rt, file, &bytes)?;
+    Ok((written, answer))
+}
+
+/// Reports that the new table of an object has no DATASECs, and returns whether it thereby lacks externs.
+fn report_sections<'a>(
+    rt: &HostRuntime,
+    file: &'a str,
+    bytes: &[u8],
+) -> Result<Answer, Failure<'a>> {
+    let (text, answer) = if blame(file, file_has_externs(rt.alloc(), bytes))? {
+        (LOST_EXTERNS, Answer::WithoutExterns)
+    } else {
+        (NO_SECTIONS, Answer::Yes)
+    };
+    // An error of standard error cannot be reported.
+    let _ = eprintln!(rt; "btfobj: {file}: {text}");
+    Ok(answer)
 }
 
 /// Whether a rewrite took the DATASECs out of a table.
@@ -302,7 +331,7 @@ fn lacks_sections(answers: &[FeatureAnswer]) -> bool {
     false
 }
 
-/// Writes a rewritten file, or its table alone.
+/// Writes a rewritten file, or its table alone. Answers whether a new object lacks the externs of the old one.
 fn write_sanitized<'a>(
     rt: &HostRuntime,
     file: &'a str,
@@ -310,9 +339,10 @@ fn write_sanitized<'a>(
     rewrite: &Rewrite<'_>,
     is_table_only: bool,
     out: &mut Output<'_>,
-) -> Result<(), Failure<'a>> {
-    let written = sanitize_file(rt, file, rewrite, is_table_only)?;
-    write(rt, output, &written, out)
+) -> Result<Answer, Failure<'a>> {
+    let (written, answer) = sanitize_file(rt, file, rewrite, is_table_only)?;
+    write(rt, output, &written, out)?;
+    Ok(answer)
 }
 
 /// Writes bytes to a file, or to standard output for `-`.

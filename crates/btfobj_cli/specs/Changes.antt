@@ -7,6 +7,7 @@ use Rattle.btf_model.specs.Spelling.{spell}
 use Rattle.btf_model.specs.Table as tables
 use Rattle.btf_model.specs.declared.endianness.Endianness.TheVariants.{Little}
 use Rattle.btf_rewrite_model.specs.declared.feature.FeatureAnswer.{FeatureAnswer}
+use Rattle.btf_object_model.specs.Externs.{table_has_externs}
 use Rattle.btfobj_cli.specs.InputFile.{IsFile, HasFileTable}
 use Rattle.btfobj_cli.specs.Rewrite.{IsRewritten}
 use Rattle.btfobj_cli.specs.declared.input_file.InputFile.{InputFile}
@@ -26,6 +27,10 @@ has_changed old new =
 -- The file of these bytes has this table.
 abbrev pub FileHasTable : List ℕ → tables.Table → Type 0
 FileHasTable bytes t = (input : InputFile) × IsFile bytes input × HasFileTable input t
+
+-- The file of these bytes has a table with a DATASEC of externs, or one without.
+abbrev pub FileHasExterns : List ℕ → Bool → Type 0
+FileHasExterns bytes has = (t : tables.Table) × FileHasTable bytes t × (has ≡ table_has_externs t)
 
 -- whether one of these answers is that the kernel lacks the feature
 abbrev pub lacks_any : List FeatureAnswer → Bool

@@ -44,7 +44,7 @@ RewritesTableAlone old target file answers =
 -- The file is the object with its table rewritten: after it is finalized, or as it is.
 abbrev pub RewritesObject : List ℕ → Rewrite → List ℕ → List FeatureAnswer → Type 0
 RewritesObject bytes rewrite file answers =
-    MatchBool rewrite.is_finalized (IsSanitizedFinalized bytes (kernel_has rewrite.kernel) file answers)
+    MatchBool rewrite.is_finalized (IsSanitizedFinalized bytes (kernel_has rewrite.kernel) rewrite.reader file answers)
     (IsSanitized bytes (chosen_target rewrite) file answers)
 
 -- The same for a file that is read: an object, or a table alone.

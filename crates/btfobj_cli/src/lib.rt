@@ -19,4 +19,4 @@ pub use input_file::InputFile;
 pub use relocation::{Ending, Form, Relocated, list_relocations, relocate};
 pub use report::{dump, ext, header, layout};
 pub use request::{Relocation, Request, read_request, running_base};
-pub use rewrite::{Rewrite, sanitize, table_alone};
+pub use rewrite::{Rewrite, file_has_externs, sanitize, table_alone};

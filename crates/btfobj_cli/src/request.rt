@@ -4,7 +4,7 @@ use crate::command::command;
 use crate::relocation::Form;
 use crate::rewrite::Rewrite;
 use btf_loader::{CandidatePolicy, Refusals};
-use btf_object::Kernel;
+use btf_object::{Kernel, TableReader};
 use btf_plain::BtfKind;
 use btf_rewrite_model::{FillPolicy, feature_named};
 use btf_text::Selection;
@@ -135,15 +135,24 @@ pub fn read_request<'a>(alloc: Global, words: &'a [&'a str]) -> Result<Request<'
         "ext" => Ok(Request::Ext { file, base }),
         "check" => Ok(Request::Check {
             file,
-            rewrite: read_rewrite(alloc, &mut command, matches)?,
+            rewrite: read_rewrite(alloc, &mut command, matches, TableReader::Kernel)?,
             target: matches.get_str("target"),
         }),
-        "sanitize" => Ok(Request::Sanitize {
-            file,
-            output: text(matches, "output"),
-            rewrite: read_rewrite(alloc, &mut command, matches)?,
-            is_table_only: matches.get_flag("table-only"),
-        }),
+        "sanitize" => {
+            let is_table_only = matches.get_flag("table-only");
+            // A kernel takes the table alone, and loaders take the object.
+            let reader = if is_table_only {
+                TableReader::Kernel
+            } else {
+                TableReader::Loaders
+            };
+            Ok(Request::Sanitize {
+                file,
+                output: text(matches, "output"),
+                rewrite: read_rewrite(alloc, &mut command, matches, reader)?,
+                is_table_only,
+            })
+        }
         "relocate" => Ok(Request::Relocate {
             file,
             relocation: read_relocation(alloc, matches)?,
@@ -269,11 +278,12 @@ fn kind_of_name(name: &str) -> Option<BtfKind> {
         .find(|kind| btf_text::kind_name(*kind).eq_ignore_ascii_case(name))
 }
 
-/// The settings of a rewrite.
+/// The settings of a rewrite for this reader.
 fn read_rewrite<'a>(
     alloc: Global,
     command: &mut Command<'_>,
     matches: &ArgMatches<'a>,
+    reader: TableReader,
 ) -> Result<Rewrite<'a>, Error> {
     let policy = if matches.get_flag("fill-sized") {
         FillPolicy::FillSized
@@ -291,6 +301,7 @@ fn read_rewrite<'a>(
         policy,
         placeholder,
         is_finalized,
+        reader,
     })
 }
 

@@ -4,13 +4,16 @@ ghost use Rattle.std.specs.Prelude.{◌≡◌, ℕ, List, None, IfOk};
 ghost use Rattle.btf_object.specs.Kernel.{kernel_has};
 ghost use Rattle.btf_table.specs.Layout.{sizes_of, offsets_of};
 ghost use Rattle.btfobj_cli.specs.InputFile.{HasFileTable, IsTableOf};
+ghost use Rattle.btfobj_cli.specs.Changes.{FileHasExterns};
 ghost use Rattle.btfobj_cli.specs.Rewrite.{chosen_target, RewritesTableAlone, RewritesObject, RewritesFile, IsRewritten};
 
 use crate::fault::Fault;
 use crate::input_file::InputFile;
 use arrayvec::ArrayVec;
 use btf_elf::Object;
-use btf_object::{Kernel, ksyms_of, sanitize_parsed, sanitize_parsed_finalized};
+use btf_object::{
+    Kernel, TableReader, has_externs, ksyms_of, sanitize_parsed, sanitize_parsed_finalized,
+};
 use btf_plain::SectionIndex;
 use btf_rewrite_model::{BtfFeature, FeatureAnswer, FillPolicy};
 use btf_table::{Btf, BtfFeatureResolver};
@@ -30,6 +33,8 @@ pub struct Rewrite<'a> {
     /// Whether the table of an object is finalized before the rewrite, as `sanitize_finalized` does, whatever the
     /// policy and the placeholder are.
     pub is_finalized: bool,
+    /// Who reads the table of an object that is finalized.
+    pub reader: TableReader,
 }
 
 /// Rewrites the table of a file for a kernel. Returns the bytes of the new file, and the answers for the features that
@@ -59,6 +64,16 @@ pub fn table_alone(alloc: Global, file: &[u8]) -> Result<Vec<u8>, Fault>
 {
     let input = InputFile::read(alloc, file)?;
     Ok(Vec::from_slice(alloc, input.table_bytes()?)?)
+}
+
+/// Whether the table of a file has externs: a DATASEC named `.ksyms` or `.kconfig`. The errors are `UnknownFormat`, and
+/// those of `InputFile::table`.
+pub fn file_has_externs(alloc: Global, file: &[u8]) -> Result<bool, Fault>
+    ensures { IfOk result (FileHasExterns file.now) }
+{
+    let input = InputFile::read(alloc, file)?;
+    let table = input.table(alloc)?;
+    Ok(has_externs(&table))
 }
 
 /// `sanitize` of a file that is already read, with its errors but `UnknownFormat`.
@@ -107,7 +122,8 @@ fn rewrite_object<H: BuildHasher + Clone + Drop>(
 {
     let kernel = &rewrite.kernel;
     if rewrite.is_finalized {
-        return Ok(sanitize_parsed_finalized(alloc, object, kernel, hash_builder)?);
+        let reader = rewrite.reader;
+        return Ok(sanitize_parsed_finalized(alloc, object, kernel, reader, hash_builder)?);
     }
     Ok(sanitize_parsed(
         alloc,

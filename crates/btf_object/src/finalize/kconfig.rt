@@ -50,7 +50,7 @@ fn variable(btf: &Btf, type_id: u32) -> Option<&Var>
 }
 
 /// The DATASEC of an id, if its type is one.
-fn data_sec(btf: &Btf, type_id: u32) -> Option<&DataSec>
+pub fn data_sec(btf: &Btf, type_id: u32) -> Option<&DataSec>
     ensures some { IfSome result (λ data_sec. IsDataSec btf.now type_id data_sec.now) }
     ensures none { IfNone result (has_data_sec_kind (kind_at btf.now type_id) ≡ false) }
 {

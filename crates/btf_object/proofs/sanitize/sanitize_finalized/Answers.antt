@@ -12,7 +12,7 @@ use Rattle.btf_object.proofs.sanitize.sanitize_finalized.Goals as goal
 
 pub returns-clause-sanitized : goal.returns-clause-sanitized
 returns-clause-sanitized g c =
-    of_bytes (λ (b : List ℕ). IfOk c.sanitize_parsed_finalized.result (λ r. IsSanitizedFinalized b (kernel_has c.args.kernel.now) r.0.items r.1.items)) c.args.bytes.now c.in_ok-object.object c.in_ok-object.ensures c.sanitize_parsed_finalized.ensures.sanitized
+    of_bytes (λ (b : List ℕ). IfOk c.sanitize_parsed_finalized.result (λ r. IsSanitizedFinalized b (kernel_has c.args.kernel.now) c.args.reader r.0.items r.1.items)) c.args.bytes.now c.in_ok-object.object c.in_ok-object.ensures c.sanitize_parsed_finalized.ensures.sanitized
 
 pub returns-clause-ext : goal.returns-clause-ext
 returns-clause-ext g c =
@@ -21,4 +21,4 @@ returns-clause-ext g c =
 
 pub returns-clause-refused : goal.returns-clause-refused
 returns-clause-refused g c =
-    of_bytes (λ (b : List ℕ). IfErr c.sanitize_parsed_finalized.result (IsFinalizedCause b (kernel_has c.args.kernel.now))) c.args.bytes.now c.in_ok-object.object c.in_ok-object.ensures c.sanitize_parsed_finalized.ensures.refused
+    of_bytes (λ (b : List ℕ). IfErr c.sanitize_parsed_finalized.result (IsFinalizedCause b (kernel_has c.args.kernel.now) c.args.reader)) c.args.bytes.now c.in_ok-object.object c.in_ok-object.ensures c.sanitize_parsed_finalized.ensures.refused

@@ -13,7 +13,7 @@ pub returns-in_err-written-clause-refused : goal.returns-in_err-written-clause-r
 returns-in_err-written-clause-refused g c =
     becomes _ (from_table c.in_err-written.field-0.0) c.from_residual.result
     (table_cause c.args.object.now.bytes c.args.object.now c.in-Some.index c.in-Some.table.now (whole c.args.object.now c.bytes.result.now c.bytes.ensures.value c.bytes.ensures.object) c.in-Some.ensures.some
-    (RefusesFinalizedFor (kernel_has c.args.kernel.now)) (RewritesFinalizedFor (kernel_has c.args.kernel.now)) c.in_err-written.field-0.0 c.in_err-written.ensures.refused)
+    (RefusesFinalizedFor (kernel_has c.args.kernel.now) c.args.reader) (RewritesFinalizedFor (kernel_has c.args.kernel.now) c.args.reader) c.in_err-written.field-0.0 c.in_err-written.ensures.refused)
     c.from_residual.ensures.1
 
 pub returns-in_err-with_section-clause-refused : goal.returns-in_err-with_section-clause-refused
@@ -21,15 +21,15 @@ returns-in_err-with_section-clause-refused g c =
     let made = c.in_ok-written.ensures.made in
     becomes _ (of_section c.in_err-with_section.field-0.0) c.from_residual-in_err-with_section.result
     (section_cause c.args.object.now.bytes c.args.object.now c.in-Some.index c.in-Some.table.now (whole c.args.object.now c.bytes.result.now c.bytes.ensures.value c.bytes.ensures.object) c.in-Some.ensures.some
-    (RefusesFinalizedFor (kernel_has c.args.kernel.now)) (RewritesFinalizedFor (kernel_has c.args.kernel.now)) c.in_err-with_section.field-0.0 (made.0, made.1, made.2, c.in_ok-written.answers.items, made.3) c.in_err-with_section.ensures.only)
+    (RefusesFinalizedFor (kernel_has c.args.kernel.now) c.args.reader) (RewritesFinalizedFor (kernel_has c.args.kernel.now) c.args.reader) c.in_err-with_section.field-0.0 (made.0, made.1, made.2, c.in_ok-written.answers.items, made.3) c.in_err-with_section.ensures.only)
     c.from_residual-in_err-with_section.ensures.1
 
 -- the file is the object with the new table
-made : (g : Over) (c : In_ok-with_section g) → IsSanitizedFinalized c.args.object.now.bytes (kernel_has c.args.kernel.now) c.in_ok-with_section.field-0.items c.in_ok-written.answers.items
+made : (g : Over) (c : In_ok-with_section g) → IsSanitizedFinalized c.args.object.now.bytes (kernel_has c.args.kernel.now) c.args.reader c.in_ok-with_section.field-0.items c.in_ok-written.answers.items
 made g c =
     let replaced : HasReplaced c.args.object.now c.in-Some.index c.in_ok-written.written.items c.in_ok-with_section.field-0.items =
     subst (λ (given : List ℕ). HasReplaced c.args.object.now c.in-Some.index given c.in_ok-with_section.field-0.items) c.deref.ensures.value c.in_ok-with_section.ensures.ok in
-    sanitized_finalized c.args.object.now.bytes c.args.object.now c.in-Some.index c.in-Some.table.now (whole c.args.object.now c.bytes.result.now c.bytes.ensures.value c.bytes.ensures.object) c.in-Some.ensures.some (kernel_has c.args.kernel.now) c.in_ok-written.written.items c.in_ok-with_section.field-0.items
+    sanitized_finalized c.args.object.now.bytes c.args.object.now c.in-Some.index c.in-Some.table.now (whole c.args.object.now c.bytes.result.now c.bytes.ensures.value c.bytes.ensures.object) c.in-Some.ensures.some (kernel_has c.args.kernel.now) c.args.reader c.in_ok-written.written.items c.in_ok-with_section.field-0.items
     c.in_ok-written.answers.items c.in_ok-written.ensures.made replaced
 
 pub returns-clause-sanitized : goal.returns-clause-sanitized
@@ -37,4 +37,4 @@ returns-clause-sanitized g c = made g (goal.at.returns-clause-sanitized g c).In_
 
 pub returns-clause-ext : goal.returns-clause-ext
 returns-clause-ext g c =
-    finalized_keeps_ext c.args.object.now.bytes c.in_ok-with_section.field-0.items (kernel_has c.args.kernel.now) c.in_ok-written.answers.items (made g (goal.at.returns-clause-ext g c).In_ok-with_section)
+    finalized_keeps_ext c.args.object.now.bytes c.in_ok-with_section.field-0.items (kernel_has c.args.kernel.now) c.args.reader c.in_ok-written.answers.items (made g (goal.at.returns-clause-ext g c).In_ok-with_section)
