@@ -11,6 +11,8 @@ use Rattle.btf_elf_model.specs.Section.{has_bytes, sht_nobits}
 use Rattle.btf_elf_model.specs.declared.section_header.SectionHeader.{SectionHeader}
 use Rattle.btf_relocate_model.specs.declared.error.RelocationError.TheVariants.{BadAccess, BadIndex}
 use Rattle.btf_relocate_model.specs.declared.instruction.Patched.TheVariants.{Written}
+use Rattle.btf_relocate_model.specs.declared.report.Change.TheVariants.{NoField}
+use Rattle.btf_relocate_model.specs.declared.report.Matched.TheVariants.{Nothing}
 use Rattle.btf_relocate_model.specs.declared.report.Report.{Report}
 use Rattle.btf_loader_model.specs.Loader.{code_index, index_at, is_short_at, file_overwritten, any_error, is_unreadable}
 use Rattle.btf_loader_model.specs.Refused.{Reason, BadSectionName, SharedPlace, BadRecord, bad_record, shares_place, shared_place, section_reason, reason_when}
@@ -20,7 +22,7 @@ two_bytes_in_place = refl
 
 -- a record that was patched, and two with an error
 written : Report
-written = record { outcome = Ok Written; matched = None; before = None; after = None }
+written = record { outcome = Ok Written; matched = Nothing; change = NoField }
 
 bad_access : Report
 bad_access = record written { outcome = Err BadAccess }

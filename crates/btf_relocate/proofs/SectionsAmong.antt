@@ -18,6 +18,7 @@ use Rattle.btf_relocate_model.specs.Section.{patched_outcome, code_after, candid
 use Rattle.btf_relocate_model.specs.declared.error.RelocationError.{RelocationError}
 use Rattle.btf_relocate_model.specs.declared.instruction.Patched.{Patched}
 use Rattle.btf_relocate_model.specs.declared.report.Matched.{Matched}
+use Rattle.btf_relocate_model.specs.declared.report.Matched.TheVariants.{Nothing}
 use Rattle.btf_relocate_model.specs.declared.report.Report.{Report}
 use Rattle.btf_relocate_model.specs.declared.resolved.Resolved.{Resolved}
 use Rattle.btf_relocate.specs.Modules.{HasResolvedAmong, candidates_view, targets_view}
@@ -40,7 +41,7 @@ module _ (local : Table) (ts : model.Targets) (words : List ℕ) (before after :
   Resolves r = HasResolvedAmong candidates_view before after (resolution_among local ts (candidates_view before) words) r
 
   -- a record that cannot be resolved
-  pub not_resolved : (e : RelocationError) → Resolves (Err e) → PatchedAmong local ts words before after old old (Err e) None
+  pub not_resolved : (e : RelocationError) → Resolves (Err e) → PatchedAmong local ts words before after old old (Err e) Nothing
   not_resolved e (inl memory, kept) = inl (ap (λ (x : RelocationError). let r : Result Patched RelocationError = Err x in r) memory)
   not_resolved e (inr same, kept) = inr (
     kept ∙ sym (ap (candidates_after (candidates_view before)) same),
@@ -50,8 +51,8 @@ module _ (local : Table) (ts : model.Targets) (words : List ℕ) (before after :
   )
 
   -- a record that is resolved, and then patched
-  pub patched_as : (new : List ℕ) (o : Result Patched RelocationError) (r : Resolved) (m : Option Matched) → Resolves (Ok r) → HasPatched old new (patched_code local.order r old (instruction_word words)) o
-      → m ≡ (if r.is_matched then first_matched (candidates_view after) else None) → PatchedAmong local ts words before after old new o m
+  pub patched_as : (new : List ℕ) (o : Result Patched RelocationError) (r : Resolved) (m : Matched) → Resolves (Ok r) → HasPatched old new (patched_code local.order r old (instruction_word words)) o
+      → m ≡ (if r.is_matched then first_matched (candidates_view after) else Nothing) → PatchedAmong local ts words before after old new o m
   patched_as new (Ok p) r m known is first =
       let patch = ap (patch_in local.order old words) known ∙ is in
       inr (sym (ap (candidates_after (candidates_view before)) known), sym (ap patched_outcome patch), first ∙ sym (ap (matched_by first_matched) known), sym (ap (code_after old) patch))

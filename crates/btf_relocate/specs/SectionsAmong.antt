@@ -58,7 +58,7 @@ LeavesAll left =
 
 -- A record was resolved for candidates of which `after` remain, and its instruction patched; or an allocation failed.
 abbrev pub PatchedAmong : Table → model.Targets → List ℕ → Candidates → Candidates → List ℕ → List ℕ
-    → Result Patched RelocationError → Option Matched → Type 0
+    → Result Patched RelocationError → Matched → Type 0
 PatchedAmong local ts words before after old new outcome matched =
     (outcome ≡ Err OutOfMemory)
     ⊎ (let r = resolution_among local ts (candidates_view before) words in

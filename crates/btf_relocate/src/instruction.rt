@@ -85,9 +85,13 @@ fn slot_at(code: &[u8], at: usize, order: Endianness) -> Slot
     }
 }
 
-/// The instruction at an offset of a section's code, in bytes. Errors: `Misaligned`, `NoInstruction` and `NoSecondSlot`,
-/// as of [`patch`].
-pub fn instruction_at(code: &[u8], at: usize, order: Endianness) -> Result<Instruction, RelocationError>
+/// The instruction at an offset of a section's code, in bytes. The errors are `Misaligned`, `NoInstruction` and
+/// `NoSecondSlot`, as those of [`patch`].
+pub fn instruction_at(
+    code: &[u8],
+    at: usize,
+    order: Endianness,
+) -> Result<Instruction, RelocationError>
     ensures value { result ≡ model.instruction_at order code.now at }
     ensures room { IfOk result
         (λ i. at + length (model.instruction_bytes order i) ≤ length code.now) }

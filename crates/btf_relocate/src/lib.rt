@@ -22,9 +22,10 @@ mod value;
 
 pub use access::Access;
 pub use btf_relocate_model::{
-    Field, Instruction, Matched, Patched, RelocationError, RelocationKind, Report, Resolved, Slot,
+    Change, Field, Instruction, Matched, Patched, RelocationError, RelocationKind, Report,
+    Resolved, Slot,
 };
-pub use instruction::{instruction_at, patch};
+pub use instruction::patch;
 pub use modules::{Candidates, InModule, Targets, candidates_among, resolve_among};
 pub use name::essential_name;
 pub use resolving::resolve;

@@ -3,7 +3,8 @@
 //! A type that the kernel's table does not have may be in the tables of modules. The tables of modules are searched
 //! only if the kernel's table has no candidate. All candidates of all modules must then have the same value.
 
-ghost use Rattle.std.specs.Prelude.{◌≡◌, ◌+◌, ◌<◌, ◌∷◌, drop, length, map, None, IfOk};
+ghost use Rattle.std.specs.Prelude.{◌≡◌, ◌+◌, ◌<◌, ◌∷◌, drop, length, map, None, Some, IfOk};
+ghost use Rattle.btf_relocate_model.specs.declared.report.Matched.{Matched};
 ghost use Rattle.btf_relocate_model.specs.Modules as model;
 ghost use Rattle.btf_relocate.specs.Gives.{GivesBy};
 ghost use Rattle.btf_relocate.specs.Modules.{ResolvesAmong, ResolvesInModules, answer_in_table, answers_view, candidates_view, found_view, targets_view};
@@ -48,25 +49,27 @@ pub enum Candidates<'a, 't> {
 
 impl Candidates<'_, '_> {
     /// The first candidate.
-    pub fn first(&self) -> Option<Matched>
+    pub fn first(&self) -> Matched
         ensures { result ≡ model.first_matched (candidates_view self.now) }
     {
         match self {
-            Candidates::InKernel(ids) => first_id(None, ids.as_slice()),
+            Candidates::InKernel(ids) => match ids.first() {
+                Some(type_id) => Matched::InKernel { type_id: *type_id },
+                None => Matched::Nothing,
+            },
             Candidates::InModules(found) => first_in_modules(found.as_slice()),
         }
     }
 }
 
-/// The first of these ids, in the kernel's table or in that of the module of an index.
-fn first_id(module_index: Option<usize>, ids: &[u32]) -> Option<Matched>
-    ensures { result ≡ model.first_id module_index ids.now }
+/// A type of the table of the module of an index. An index has 32 bits.
+fn in_module(index: usize, type_id: u32) -> Matched
+    ensures { (other : Matched) → result ≡ model.in_module_or other index (Some type_id) }
 {
-    let type_id = *ids.first()?;
-    Some(Matched {
-        module_index,
-        type_id,
-    })
+    match u32::try_from(index) {
+        Ok(index) => Matched::InModule { index, type_id },
+        Err(_) => Matched::Nothing,
+    }
 }
 
 /// The candidates in the table of the module of an index.
@@ -78,16 +81,15 @@ fn found_at<'f, 'a, 't>(found: &'f [InModule<'a, 't>], index: usize) -> &'f InMo
 }
 
 /// The first of the candidates in the tables of all modules.
-fn first_in_modules(found: &[InModule<'_, '_>]) -> Option<Matched>
+fn first_in_modules(found: &[InModule<'_, '_>]) -> Matched
     ensures { result ≡ model.first_in_modules 0 (map found_view found.now) }
 {
     for index in 0..found.len() {
-        let first = first_id(Some(index), found_at(found, index).ids.as_slice());
-        if first.is_some() {
-            return first;
+        if let Some(type_id) = found_at(found, index).ids.first() {
+            return in_module(index, *type_id);
         }
     }
-    None
+    Matched::Nothing
 }
 
 /// The candidates of a type of the program's table, for [`resolve_among`]; none if the id has no type. The tables of

@@ -1,9 +1,12 @@
 //! The records of a section.
 
-ghost use Rattle.std.specs.Prelude.{◌≡◌, map, if◌then◌else◌, None, IfOk, OnOk};
+ghost use Rattle.std.specs.Prelude.{◌≡◌, map, if◌then◌else◌, IfOk, OnOk};
+ghost use Rattle.btf_relocate_model.specs.Instruction.{access_size};
 ghost use Rattle.btf_relocate_model.specs.Modules.{first_matched};
 ghost use Rattle.btf_relocate_model.specs.Resolution.{type_word};
+ghost use Rattle.btf_relocate_model.specs.Section as model;
 ghost use Rattle.btf_relocate_model.specs.Section.{candidates_of, relocated_section};
+ghost use Rattle.btf_relocate_model.specs.declared.report.Matched.TheVariants.{Nothing};
 ghost use Rattle.btf_relocate_model.specs.declared.report.Report.{Report as Said};
 ghost use Rattle.btf_relocate.specs.Modules.{candidates_view, targets_view};
 ghost use Rattle.btf_relocate.specs.Sections.{HasOthers, RelocatesSection, is_shared, setting};
@@ -13,7 +16,9 @@ use crate::instruction::{instruction_at, patch};
 use crate::lookup::{name_or_none, type_at};
 use crate::modules::{Candidates, Targets, candidates_among, resolve_among};
 use crate::target::Target;
-use btf_relocate_model::{Matched, Patched, RelocationError, Report, Resolved};
+use btf_relocate_model::{
+    Change, Instruction, Matched, Patched, RelocationError, Report, Resolved, Slot,
+};
 use btf_table::Btf;
 use std::alloc::{AllocError, Global};
 use std::collections::BTreeMap;
@@ -181,11 +186,11 @@ fn relocate(
     let (order, offset) = (local.endianness(), record[0] as usize);
     let before = instruction_at(code, offset, order).ok();
     let (outcome, matched) = resolve_and_patch(alloc, local, targets, record, candidates, code);
+    let after = instruction_at(code, offset, order).ok();
     Report {
         outcome,
         matched,
-        before,
-        after: instruction_at(code, offset, order).ok(),
+        change: change(&outcome, before, after),
     }
 }
 
@@ -197,7 +202,7 @@ fn resolve_and_patch(
     record: &[u32; 4],
     candidates: &mut Candidates<'_, '_>,
     code: &mut [u8],
-) -> (Outcome, Option<Matched>)
+) -> (Outcome, Matched)
     ensures { PatchedAmong local.now (targets_view targets.now) «record».now candidates.old
         candidates.new code.old code.new result.0 result.1 }
 {
@@ -206,19 +211,71 @@ fn resolve_and_patch(
             let outcome = patch(code, record[0] as usize, local.endianness(), &resolved);
             (outcome, first_matched(&resolved, candidates))
         }
-        Err(error) => (Err(error), None),
+        Err(error) => (Err(error), Matched::Nothing),
     }
 }
 
 /// The first of the candidates that a record has left, if one of them matches.
-fn first_matched(resolved: &Resolved, candidates: &Candidates<'_, '_>) -> Option<Matched>
+fn first_matched(resolved: &Resolved, candidates: &Candidates<'_, '_>) -> Matched
     ensures { result ≡ (if resolved.now.is_matched then first_matched (candidates_view candidates.now)
-        else None) }
+        else Nothing) }
 {
     if resolved.is_matched {
         candidates.first()
     } else {
-        None
+        Matched::Nothing
+    }
+}
+
+/// The field of an instruction, before and after. It is lost if the instruction was poisoned.
+fn change(outcome: &Outcome, before: Option<Instruction>, after: Option<Instruction>) -> Change
+    ensures { result ≡ model.change_by outcome.now before after }
+{
+    if let Ok(Patched::Poisoned) = outcome {
+        return Change::NoField;
+    }
+    match (before, after) {
+        (Some(Instruction::Narrow(before)), Some(Instruction::Narrow(after))) => {
+            slot_change(&before, &after)
+        }
+        (Some(Instruction::Wide(low, high)), Some(Instruction::Wide(new_low, new_high))) => {
+            Change::Wide {
+                before: (low.immediate, high.immediate),
+                after: (new_low.immediate, new_high.immediate),
+            }
+        }
+        _ => Change::NoField,
+    }
+}
+
+/// The field of an instruction of one slot, before and after.
+fn slot_change(before: &Slot, after: &Slot) -> Change
+    ensures { result ≡ model.slot_change before.now after.now }
+{
+    match before.opcode % 8 {
+        1..=3 => Change::Offset {
+            before: before.offset,
+            after: after.offset,
+            size_before: access_size(before),
+            size_after: access_size(after),
+        },
+        4 | 7 => Change::Immediate {
+            before: before.immediate,
+            after: after.immediate,
+        },
+        _ => Change::NoField,
+    }
+}
+
+/// The number of bytes that a load or store reads or writes.
+fn access_size(slot: &Slot) -> u8
+    ensures { result ≡ access_size slot.now }
+{
+    match slot.opcode / 8 % 4 {
+        0 => 4,
+        1 => 2,
+        2 => 1,
+        _ => 8,
     }
 }
 

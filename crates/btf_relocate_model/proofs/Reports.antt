@@ -1,5 +1,5 @@
 -- The reports of records, one after another.
-use Rattle.std.proofs.Common.{◌≡◌, ℕ, List, [], ◌∷◌, ◌++◌, Bool, Option, Result, refl, ap}
+use Rattle.std.proofs.Common.{◌≡◌, ℕ, List, [], ◌∷◌, ◌++◌, Bool, Result, refl, ap}
 use Rattle.std.specs.Prelude.{map}
 use Rattle.btf_model.specs.declared.endianness.Endianness.{Endianness}
 use Rattle.btf_relocate_model.specs.Laws.{ReportsHaveOutcomes, RecordsInTurn}
@@ -11,7 +11,7 @@ use Rattle.btf_relocate_model.specs.declared.report.Matched.{Matched}
 use Rattle.btf_relocate_model.specs.declared.report.Report.{Report}
 use Rattle.btf_relocate_model.specs.declared.resolved.Resolved.{Resolved}
 
-module _ {A : Type 0} (first : A → Option Matched) (order : Endianness) (resolve : A → List ℕ → Result (Resolved × A) RelocationError) (shares : Bool) where
+module _ {A : Type 0} (first : A → Matched) (order : Endianness) (resolve : A → List ℕ → Result (Resolved × A) RelocationError) (shares : Bool) where
   pub have_outcomes : (left : ℕ → A) (code : List ℕ) (records : List (List ℕ))
       → (map (λ (x : Report). x.outcome) (reported_by first order resolve shares left code records).0, (reported_by first order resolve shares left code records).1) ≡ relocated_by order resolve shares left code records
   have_outcomes left code [] = refl

@@ -3,8 +3,7 @@
 -- candidate, and its `bpf_core_calc_relo_insn`, where all candidates of all tables have to agree. The table of a module
 -- is whole here: the kernel's types and then the module's own. Since the kernel's table has no candidate, each candidate
 -- in it is the module's own.
-use Rattle.std.specs.Prelude.{ℕ, suc, ◌==◌, ◌&&◌, not, if◌then◌else◌, Bool, List, [], ◌∷◌, length, map, slice_get, Option, Some, None, option_map, Result, Ok, Err}
-use Rattle.std.specs.Option.{option_or}
+use Rattle.std.specs.Prelude.{ℕ, suc, ◌^◌, ◌==◌, ◌&&◌, nat_lt, not, if◌then◌else◌, Bool, List, [], ◌∷◌, length, map, slice_get, Option, Some, None, Result, Ok, Err}
 use Rattle.btf_model.specs.Table.{Table}
 use Rattle.btf_relocate_model.specs.Resolution.{Subject, question, answers, answered_by, candidate_answer, remaining, resolution, resolved_by, validates, type_word}
 use Rattle.btf_relocate_model.specs.Section.{candidates_of, left_after_all, relocated_by, reported_by}
@@ -15,6 +14,7 @@ use Rattle.btf_relocate_model.specs.declared.field.Value.{Value}
 use Rattle.btf_relocate_model.specs.declared.instruction.Patched.{Patched}
 use Rattle.btf_relocate_model.specs.declared.kind.RelocationKind.{RelocationKind}
 use Rattle.btf_relocate_model.specs.declared.report.Matched.{Matched}
+use Rattle.btf_relocate_model.specs.declared.report.Matched.TheVariants.{Nothing, InKernel as kernel_match, InModule as module_match}
 use Rattle.btf_relocate_model.specs.declared.report.Report.{Report}
 use Rattle.btf_relocate_model.specs.declared.resolved.Resolved.{Resolved}
 
@@ -109,18 +109,24 @@ relocated_section_among local ts is_shared code records =
 
 -- ---- all records of a program
 
--- the first of these ids, in the table of this module
-abbrev pub first_id : Option ℕ → List ℕ → Option Matched
-first_id index ids = option_map (λ (id : ℕ). record { module_index = index; type_id = id }) (slice_get ids 0)
+-- the type of an id in the kernel's table, if there is one
+abbrev pub in_kernel : Option ℕ → Matched
+in_kernel (Some id) = kernel_match id
+in_kernel None = Nothing
+
+-- the type of an id in the table of the module of an index, which has 32 bits; else what another module has
+abbrev pub in_module_or : Matched → ℕ → Option ℕ → Matched
+in_module_or other index (Some id) = if nat_lt index (2 ^ 32) then module_match index id else Nothing
+in_module_or other index None = other
 
 -- the first of the candidates in the tables of modules, where the first table is that of the module of this index
-abbrev pub first_in_modules : ℕ → List InModule → Option Matched
-first_in_modules index [] = None
-first_in_modules index (m ∷ ms) = option_or (first_id (Some index) m.ids) (first_in_modules (suc index) ms)
+abbrev pub first_in_modules : ℕ → List InModule → Matched
+first_in_modules index [] = Nothing
+first_in_modules index (m ∷ ms) = in_module_or (first_in_modules (suc index) ms) index (slice_get m.ids 0)
 
 -- The first candidate.
-abbrev pub first_matched : Candidates → Option Matched
-first_matched (InKernel ids) = first_id None ids
+abbrev pub first_matched : Candidates → Matched
+first_matched (InKernel ids) = in_kernel (slice_get ids 0)
 first_matched (InModules found) = first_in_modules 0 found
 
 -- the candidates of each type before the first record of a program

@@ -1,19 +1,25 @@
 -- What becomes of the code of a section: its records in order.
 -- Source: libbpf's `bpf_object__relocate_core`, whose candidates of a type are shared by all records of the type in an
 -- object (`cand_cache`); the kernel's `bpf_core_apply` gives each record all candidates.
-use Rattle.std.specs.Prelude.{ℕ, ◌==◌, if◌then◌else◌, Bool, List, [], ◌∷◌, slice_get, Option, Some, None, Result, Ok, Err}
+use Rattle.std.specs.Prelude.{ℕ, ◌%◌, ◌==◌, ◌&&◌, ◌||◌, nat_lt, nat_le, if◌then◌else◌, Bool, List, [], ◌∷◌, slice_get, Option, Some, None, Result, Ok, Err}
 use Rattle.std.specs.Result.{result_ok}
 use Rattle.btf_model.specs.Record.{Record, kind_number}
 use Rattle.btf_model.specs.Table.{Table}
 use Rattle.btf_model.specs.declared.endianness.Endianness.{Endianness}
 use Rattle.btf_relocate_model.specs.Candidates.{candidates}
-use Rattle.btf_relocate_model.specs.Instruction.{instruction_at, patched_code}
+use Rattle.btf_relocate_model.specs.Instruction.{access_size, instruction_at, patched_code}
 use Rattle.btf_relocate_model.specs.Resolution.{TablePair, resolution, type_word, instruction_word}
 use Rattle.btf_relocate_model.specs.Types.{name_or_none}
 use Rattle.btf_relocate_model.specs.declared.error.RelocationError.{RelocationError}
 use Rattle.btf_relocate_model.specs.declared.instruction.Instruction.{Instruction}
+use Rattle.btf_relocate_model.specs.declared.instruction.Instruction.TheVariants.{Narrow, Wide as WideInstruction}
 use Rattle.btf_relocate_model.specs.declared.instruction.Patched.{Patched}
+use Rattle.btf_relocate_model.specs.declared.instruction.Patched.TheVariants.{Poisoned}
+use Rattle.btf_relocate_model.specs.declared.instruction.Slot.{Slot}
+use Rattle.btf_relocate_model.specs.declared.report.Change.{Change}
+use Rattle.btf_relocate_model.specs.declared.report.Change.TheVariants.{NoField, Offset, Immediate, Wide}
 use Rattle.btf_relocate_model.specs.declared.report.Matched.{Matched}
+use Rattle.btf_relocate_model.specs.declared.report.Matched.TheVariants.{Nothing}
 use Rattle.btf_relocate_model.specs.declared.report.Report.{Report}
 use Rattle.btf_relocate_model.specs.declared.resolved.Resolved.{Resolved}
 
@@ -104,18 +110,37 @@ relocated_section g is_shared code records =
 abbrev pub instruction_in : Endianness → List ℕ → ℕ → Option Instruction
 instruction_in order code at = result_ok (instruction_at order code at)
 
+-- The field of an instruction of one slot, by the three low bits of its opcode: the offset of a load or store, or the
+-- immediate of an arithmetic instruction.
+abbrev pub slot_change : Slot → Slot → Change
+slot_change s u =
+    if nat_lt 0 (s.opcode % 8) && nat_le (s.opcode % 8) 3
+    then Offset s.offset u.offset (access_size s) (access_size u)
+    else (if (s.opcode % 8 == 4) || (s.opcode % 8 == 7) then Immediate s.immediate u.immediate else NoField)
+
+-- The field that is patched, in the instruction before and after.
+abbrev pub change_between : Option Instruction → Option Instruction → Change
+change_between (Some (Narrow s)) (Some (Narrow u)) = slot_change s u
+change_between (Some (WideInstruction s t)) (Some (WideInstruction u v)) = Wide (s.immediate, t.immediate) (u.immediate, v.immediate)
+change_between before after = NoField
+
+-- A poisoned instruction has another form, in which the field is lost.
+abbrev pub change_by : Result Patched RelocationError → Option Instruction → Option Instruction → Change
+change_by (Ok Poisoned) before after = NoField
+change_by outcome before after = change_between before after
+
 -- the type that matches first: `first` has it for the candidates that remain after a record
-abbrev pub matched_by : {A : Type 0} → (A → Option Matched) → Result (Resolved × A) RelocationError → Option Matched
-matched_by first (Ok r) = if r.0.is_matched then first r.1 else None
-matched_by first (Err e) = None
+abbrev pub matched_by : {A : Type 0} → (A → Matched) → Result (Resolved × A) RelocationError → Matched
+matched_by first (Ok r) = if r.0.is_matched then first r.1 else Nothing
+matched_by first (Err e) = Nothing
 
 -- What was done for a record of a program of this byte order, by the code before it and the patch.
-abbrev pub report_of : Endianness → List ℕ → List ℕ → Option Matched → Result (Patched × List ℕ) RelocationError → Report
+abbrev pub report_of : Endianness → List ℕ → List ℕ → Matched → Result (Patched × List ℕ) RelocationError → Report
 report_of order code words matched p = record {
   outcome = patched_outcome p;
   matched = matched;
-  before = instruction_in order code (instruction_word words);
-  after = instruction_in order (code_after code p) (instruction_word words);
+  change = change_by (patched_outcome p) (instruction_in order code (instruction_word words))
+      (instruction_in order (code_after code p) (instruction_word words));
 }
 
 -- a report, before those of later records
@@ -123,7 +148,7 @@ abbrev pub then_reports : Report → List Report × List ℕ → List Report × 
 then_reports r rest = (r ∷ rest.0, rest.1)
 
 -- What was done for each record, and the code after all of them.
-abbrev pub reported_by : {A : Type 0} → (A → Option Matched) → Endianness
+abbrev pub reported_by : {A : Type 0} → (A → Matched) → Endianness
     → (A → List ℕ → Result (Resolved × A) RelocationError) → Bool → (ℕ → A) → List ℕ → List (List ℕ)
     → List Report × List ℕ
 reported_by first order resolve is_shared left code [] = ([], code)

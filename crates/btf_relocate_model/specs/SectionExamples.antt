@@ -2,7 +2,7 @@
 -- `missing_type` of `tests/rows/relocations.rows`, where libbpf has these outcomes; libbpf shares candidates. The
 -- program was compiled against `struct s { int a; int b; }`; the target has `struct s { int a; }`, of 8 bytes, and
 -- `struct s___2 { int b; int a; }`.
-use Rattle.std.specs.Prelude.{◌≡◌, ℕ, ◌+◌, ◌*◌, ◌^◌, true, false, List, [], ◌∷◌, ◌++◌, codes, Some, None, Ok, Err, refl}
+use Rattle.std.specs.Prelude.{◌≡◌, ℕ, ◌+◌, ◌*◌, ◌^◌, true, false, List, [], ◌∷◌, ◌++◌, codes, Ok, Err, refl}
 use Rattle.btf_model.specs.Record.{Record, unknown}
 use Rattle.btf_model.specs.Table.{Table}
 use Rattle.btf_model.specs.declared.endianness.Endianness.TheVariants.{Little}
@@ -14,9 +14,9 @@ use Rattle.btf_relocate_model.specs.Search.{search}
 use Rattle.btf_relocate_model.specs.Section.{relocated_section}
 use Rattle.btf_relocate_model.specs.Types.{walk}
 use Rattle.btf_relocate_model.specs.declared.error.RelocationError.TheVariants.{Ambiguous}
-use Rattle.btf_relocate_model.specs.declared.instruction.Instruction.TheVariants.{Narrow}
 use Rattle.btf_relocate_model.specs.declared.instruction.Patched.TheVariants.{Written, Poisoned}
-use Rattle.btf_relocate_model.specs.declared.instruction.Slot.{Slot}
+use Rattle.btf_relocate_model.specs.declared.report.Change.TheVariants.{Offset}
+use Rattle.btf_relocate_model.specs.declared.report.Matched.TheVariants.{InKernel}
 use Rattle.btf_relocate_model.specs.declared.report.Report.{Report}
 
 -- `int` at 1, `s` at 5, `a` at 7, `b` at 9, `.text` at 11, the access `0:1` at 17, the access `0:0` at 21
@@ -112,18 +112,9 @@ unchanged = refl
 program : KernelSetting
 program = record { local = both.local; targets = modules.alone both.target }
 
--- the load of 4 bytes at an offset, as an instruction
-load_slot : ℕ → Slot
-load_slot offset = record { opcode = 0x61; registers = 0x12; offset = offset; immediate = 0 }
-
--- a load that got the offset of a member of a type
+-- a load of 4 bytes that got the offset of a member of a type
 moved : ℕ → ℕ → ℕ → Report
-moved id old new = record {
-  outcome = Ok Written;
-  matched = Some (record { module_index = None; type_id = id });
-  before = Some (Narrow (load_slot old));
-  after = Some (Narrow (load_slot new));
-}
+moved id old new = record { outcome = Ok Written; matched = InKernel id; change = Offset old new 4 4 }
 
 -- In the first section `b` is found in `s___2`, which is then the one candidate for `a` in the second. Without the first
 -- section both candidates have an `a`, at different offsets.
@@ -132,5 +123,5 @@ shared_by_sections :
     (reported_section program true (all_candidates program) (load 4) (offset_of_b 0 ∷ []) ≡ (moved 3 4 0 ∷ [], load 0))
     × (reported_section program true left (load 0) (offset_of_a 0 ∷ []) ≡ (moved 3 0 4 ∷ [], load 4))
     × ((reported_section program true (all_candidates program) (load 0) (offset_of_a 0 ∷ [])).1 ≡ load 0)
-unfolding program moved load_slot both setting table local_texts target_texts int structure walk search compatible_within
+unfolding program moved both setting table local_texts target_texts int structure walk search compatible_within
 shared_by_sections = (refl, refl, refl)

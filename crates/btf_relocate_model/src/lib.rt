@@ -21,7 +21,7 @@ pub use error::RelocationError;
 pub use field::{Field, Load, Value};
 pub use instruction::{Instruction, Patched, Slot};
 pub use kind::RelocationKind;
-pub use report::{Matched, Report};
+pub use report::{Change, Matched, Report};
 pub use resolved::Resolved;
 
 /// A value that a relocation writes into an instruction is read back from it.

@@ -1,49 +1,61 @@
 //! What became of a record, for a reader.
 
-use crate::relocation::instruction::{Written, access_size};
 use crate::relocation::spec::{Spec, TypeText};
-use btf_relocate::{Instruction, Patched, Report};
+use btf_relocate::{Change, Patched, Report};
 use serde_json::{Value, json};
 use std::alloc::{AllocError, Global};
 use std::fmt;
 
-/// What an instruction has that a relocation writes.
+/// The field of an instruction that a relocation writes.
 #[derive(Clone, Copy)]
-struct Access {
-    /// The field.
-    field: Option<Written>,
-    /// The number of bytes that a load or store reads or writes.
-    size: Option<u32>,
+enum Field {
+    /// There is none.
+    Nothing,
+    /// The offset of a load or store, or the immediate of an arithmetic instruction.
+    Signed(i64),
+    /// The immediate of 64 bits.
+    Wide(u64),
 }
 
-impl Access {
-    /// That of an instruction, if there is one.
-    fn of(instruction: &Option<Instruction>) -> Access {
-        match instruction {
-            Some(instruction) => Access {
-                field: Written::of(instruction),
-                size: access_size(instruction),
-            },
-            None => Access {
-                field: None,
-                size: None,
-            },
+impl Field {
+    /// The immediate of these halves.
+    fn of_halves(halves: (u32, u32)) -> Field {
+        let (low, high) = halves;
+        Field::Wide(u64::from(high) << 32 | u64::from(low))
+    }
+
+    /// The field of an instruction before and after a relocation.
+    fn both(change: Change) -> (Field, Field) {
+        match change {
+            Change::NoField => (Field::Nothing, Field::Nothing),
+            Change::Offset { before, after, .. } => (
+                Field::Signed(i64::from(before.cast_signed())),
+                Field::Signed(i64::from(after.cast_signed())),
+            ),
+            Change::Immediate { before, after } => (
+                Field::Signed(i64::from(before.cast_signed())),
+                Field::Signed(i64::from(after.cast_signed())),
+            ),
+            Change::Wide { before, after } => (Field::of_halves(before), Field::of_halves(after)),
         }
     }
 
-    /// The field as JSON; null if there is none.
-    fn field_value(self) -> Value {
-        match self.field {
-            Some(field) => field.value(),
-            None => Value::Null,
+    /// The field as a JSON number; null if there is none.
+    fn value(self) -> Value {
+        match self {
+            Field::Nothing => Value::Null,
+            Field::Signed(field) => Value::from(field),
+            Field::Wide(field) => Value::from(field),
         }
     }
+}
 
-    /// The size as JSON; null if there is none.
-    fn size_value(self) -> Value {
-        match self.size {
-            Some(size) => Value::from(size),
-            None => Value::Null,
+impl fmt::Display for Field {
+    fn fmt<W: fmt::Write>(&self, f: &mut fmt::Formatter<W>) -> fmt::Result {
+        match self {
+            Field::Nothing => Ok(()),
+            Field::Signed(field) => write!(f, "{field}"),
+            Field::Wide(field) => write!(f, "{field}"),
         }
     }
 }
@@ -67,17 +79,27 @@ impl Entry<'_> {
 
     /// Writes what the record changed: the field, and the size if it is another one.
     fn write_patch<W: fmt::Write>(&self, f: &mut fmt::Formatter<W>) -> fmt::Result {
-        let before = Access::of(&self.report.before);
-        let after = Access::of(&self.report.after);
-        f.write_str(": patched")?;
-        if let (Some(before), Some(after)) = (before.field, after.field) {
-            write!(f, " {before} -> {after}")?;
-        }
-        match (before.size, after.size) {
-            (Some(before), Some(after)) if before != after => {
-                write!(f, ", size {before} -> {after}")
-            }
+        let (before, after) = Field::both(self.report.change);
+        write!(f, ": patched {before} -> {after}")?;
+        match self.report.change {
+            Change::Offset {
+                size_before,
+                size_after,
+                ..
+            } if size_before != size_after => write!(f, ", size {size_before} -> {size_after}"),
             _ => Ok(()),
+        }
+    }
+
+    /// The number of bytes that the load or store reads or writes, before and after; null for other instructions.
+    fn sizes(&self) -> (Value, Value) {
+        match self.report.change {
+            Change::Offset {
+                size_before,
+                size_after,
+                ..
+            } => (Value::from(size_before), Value::from(size_after)),
+            _ => (Value::Null, Value::Null),
         }
     }
 
@@ -98,8 +120,8 @@ impl Entry<'_> {
             Some(found) => Value::from(found.id),
             None => Value::Null,
         };
-        let before = Access::of(&self.report.before);
-        let after = Access::of(&self.report.after);
+        let (before, after) = Field::both(self.report.change);
+        let (size_before, size_after) = self.sizes();
         json!(in alloc; {
             "insn": insn,
             "kind": kind.as_str(),
@@ -108,10 +130,10 @@ impl Entry<'_> {
             "target_id": found,
             "outcome": outcome,
             "error": error,
-            "before": before.field_value(),
-            "after": after.field_value(),
-            "size_before": before.size_value(),
-            "size_after": after.size_value()
+            "before": before.value(),
+            "after": after.value(),
+            "size_before": size_before,
+            "size_after": size_after
         })
     }
 }

@@ -38,10 +38,10 @@ loop-index-preserved c =
     let no_errors : c.args.self.now.refusals ≡ Refuse → any_error (map outcomes_of c.push.new.all.items) ≡ false = grind (arith, common_steps) in
     let unread : list_any (is_unreadable c.args.self.now.local.now.strings) (map relocation c.args.relocations.now) ≡ list_any (is_unreadable c.args.self.now.local.now.strings) (map relocation others) = search rules in (
       continues g (is_shared c.args.self.now.policy) c.args.self.now.object.now c.args.file.now c.args.relocations.now c.loop-index.all.items c.push.new.all.items left later c.loop-index.file c.relocate_section.new.file rest others s done
-      c.loop-index.invariant.0 c.relocation_at-section.ensures c.in_ok-push.ensures refl c.in_ok-outcomes.ensures.relocated c.in_ok-outcomes.ensures.left,
+          c.loop-index.invariant.0 c.relocation_at-section.ensures c.in_ok-push.ensures refl c.in_ok-outcomes.ensures.relocated c.in_ok-outcomes.ensures.left,
       no_errors,
       unread,
       c.loop-index.invariant.3
-      ∙ no_reason g (is_shared c.args.self.now.policy) c.args.self.now.object.now (refuses_errors c.args.self.now.refusals) left later c.loop-index.file c.relocate_section.new.file rest others s (outcomes_of done).1
-      c.relocation_at-section.ensures none c.in_ok-outcomes.ensures.relocated c.in_ok-outcomes.ensures.left,
+          ∙ no_reason g (is_shared c.args.self.now.policy) c.args.self.now.object.now (refuses_errors c.args.self.now.refusals) left later c.loop-index.file c.relocate_section.new.file rest others s (outcomes_of done).1
+          c.relocation_at-section.ensures none c.in_ok-outcomes.ensures.relocated c.in_ok-outcomes.ensures.left,
     )

@@ -1,15 +1,17 @@
 use Rattle.std.proofs.Common.{◌≡◌, ◌∙◌, ◌<◌, ◌+◌, ◌++◌, ◌∷◌, [], ℕ, suc, List, length, take, slice_index_or, sym, ap, subst, arith}
-use Rattle.std.specs.Prelude.{unwrap_or, option_map, None, Ok}
+use Rattle.std.specs.Prelude.{unwrap_or, option_map, Ok}
 use Rattle.std.proofs.Math.Seq.{take-suc}
 use Rattle.std.proofs.lemmas.List.{append_assoc, take_all}
 use Rattle.btf_relocate_model.specs.declared.instruction.Patched.TheVariants.{Written}
+use Rattle.btf_relocate_model.specs.declared.report.Change.TheVariants.{NoField}
+use Rattle.btf_relocate_model.specs.declared.report.Matched.TheVariants.{Nothing}
 use Rattle.btf_relocate_model.specs.declared.report.Report.{Report}
 use Rattle.vbtf.specs.Relocate.{Counts}
 use Rattle.vbtf.proofs.relocate.Tally.add_section.Goals as goal
 
 -- a report to read where there is none
 none : Report
-none = record { outcome = Ok Written; matched = None; before = None; after = None }
+none = record { outcome = Ok Written; matched = Nothing; change = NoField }
 
 -- the reports so far, with the next one
 next_report : (counted reports : List Report) (i : ℕ) (d : Report) → i < length reports
