@@ -32,14 +32,14 @@ refuses_records options = options / 2 % 2 == 0
 -- ---- the numbers of records
 
 -- an instruction was poisoned
-abbrev pub poisons : Result Patched RelocationError → Bool
-poisons (Ok Written) = false
-poisons (Ok Poisoned) = true
-poisons (Err error) = false
+abbrev pub poisons_record : Result Patched RelocationError → Bool
+poisons_record (Ok Written) = false
+poisons_record (Ok Poisoned) = true
+poisons_record (Err error) = false
 
 -- the instruction of the record is poisoned
 abbrev pub poisons_instruction : Report → Bool
-poisons_instruction report = poisons report.outcome
+poisons_instruction report = poisons_record report.outcome
 
 -- the reports of the records of a section; none if it has no code in the file
 abbrev pub reports_in : ℕ × Outcomes → List Report
