@@ -111,8 +111,8 @@ pub fn sanitize_parsed<H: BuildHasher + Clone + Drop>(
 }
 
 /// The object with its table finalized as by libbpf, and then rewritten for a kernel, as this reader gets it; and the
-/// features that the rewrite asked for, each with whether the kernel has it. The first section named `.BTF` has the bytes
-/// of the new table, and no other section changes.
+/// features that the rewrite asked for, each with whether the kernel has it. The first section named `.BTF` has the
+/// bytes of the new table, and no other section changes.
 ///
 /// Before the rewrite, the variables of `.kconfig` are laid out, DATASECs get the sizes of their sections, and their
 /// entries get the offsets of their variables and are sorted by them. If functions are in `.ksyms`, a variable
@@ -120,10 +120,10 @@ pub fn sanitize_parsed<H: BuildHasher + Clone + Drop>(
 /// it (`FillPolicy::FillSized`). After the rewrite, a STRUCT that was a DATASEC has the DATASEC's size.
 ///
 /// `TableReader::Kernel` is for a caller that gives the new table to the kernel. `TableReader::Loaders` is for one that
-/// gives the object to libbpf or another loader: each DATASEC named `.ksyms` or `.kconfig`, and each VAR and FUNC that is
-/// an entry of it, is as in the old table, because a loader recognizes externs by their linkage, and finalizes them
-/// itself. If the kernel has no DATASECs, loaders cannot open an object with externs (`has_externs`), and the new table
-/// is the same for both readers.
+/// gives the object to libbpf or another loader: each DATASEC named `.ksyms` or `.kconfig`, and each VAR and FUNC that
+/// is an entry of it, is as in the old table, without a `dummy_ksym`, because a loader recognizes externs by their
+/// linkage, and finalizes them itself. If the kernel has no DATASECs, loaders cannot open an object with externs
+/// (`has_externs`), and the new table is the same for both readers.
 ///
 /// `hash_builder` hashes the names of the object's sections and symbols. The default has a fixed seed, so an attacker
 /// can choose names that collide, and n of them take time in proportion to n squared. For an untrusted object, pass a

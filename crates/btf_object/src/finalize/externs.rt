@@ -103,8 +103,8 @@ fn is_still_section(section: &DataSec, btf: &Btf, type_id: u32) -> bool
     }
 }
 
-/// Puts the old DATASEC of an id into the new table, and the types of its entries that are still VARs or FUNCs, if it is
-/// a DATASEC of externs and still a DATASEC. `OutOfMemory` is the only error.
+/// Puts the old DATASEC of an id into the new table, and the types of its entries that are still VARs or FUNCs, if it
+/// is a DATASEC of externs and still a DATASEC. `OutOfMemory` is the only error.
 fn put_section(old: &Btf, btf: &mut Btf, type_id: u32) -> Result<(), BtfError>
     ensures made { OnOk result (btf.new ≡ with_old_section old.now type_id btf.old) }
     ensures memory { IfErr result (λ e. e ≡ BtfError.OutOfMemory) }
@@ -122,8 +122,8 @@ fn put_section(old: &Btf, btf: &mut Btf, type_id: u32) -> Result<(), BtfError>
     Ok(())
 }
 
-/// Puts the externs of the old table into the new one: each DATASEC of externs that is still a DATASEC, and the types of
-/// its entries that are still VARs or FUNCs. `OutOfMemory` is the only error.
+/// Puts the externs of the old table into the new one: each DATASEC of externs that is still a DATASEC, and the types
+/// of its entries that are still VARs or FUNCs. `OutOfMemory` is the only error.
 pub fn put_externs(old: &Btf, btf: &mut Btf) -> Result<(), BtfError>
     ensures made { OnOk result (btf.new ≡ for_loaders old.now btf.old) }
     ensures memory { IfErr result (λ e. e ≡ BtfError.OutOfMemory) }
