@@ -83,8 +83,20 @@ HEADERS = (
     ("clang14.bpfeb.kinds.o node", "clang14.bpfeb.kinds.o.node"),
     ("clang14.bpfeb.kinds.o node --kind struct", "clang14.bpfeb.kinds.o.node"),
     ("clang14.bpfeb.kinds.o --kind union", "clang14.bpfeb.kinds.o.union"),
+    # A FUNC of this name, whose parameter is a pointer to a structure.
+    ("clang14.bpfel.prog.o check", "clang14.bpfel.prog.o.check"),
     # No compiler writes a table with such names. This file is written by hand.
     ("names.btf", "names.btf.header"),
+)
+
+SPLIT = (
+    "the table is split, as a module's, and its names or ids are in a base: "
+    "check and sanitize rewrite only a whole table, and have no --base"
+)
+UNLINKED = "a variable is extern and not in the object: link it with the object that has it, as bpftool gen object does"
+OTHER_BASE = (
+    "the base seems to be of another kernel: a name of type 315 does not begin where a string begins, "
+    "or its type is missing"
 )
 
 # The words of a command on a file of tests/corpus_data that is refused, and the error.
@@ -96,6 +108,17 @@ REFUSED = (
     ("dump module1.btf", "names or ids are not in the table, as in split BTF, whose base --base names"),
     ("dump module2.btf", "names or ids are not in the table, as in split BTF, whose base --base names"),
     ("dump module3.btf", "names or ids are not in the table, as in split BTF, whose base --base names"),
+    ("dump clang14.bpfel.prog.o --ids 99999", "no type has such an id, the last one is 49"),
+    ("dump clang14.bpfel.prog.o --ids 0", "no type has such an id, the last one is 49"),
+    ("dump module1.btf --base base.btf --ids 3", "no type has such an id, the last one is 320"),
+    ("check module1.btf --kernel 5.4", SPLIT),
+    ("sanitize module1.btf -o - --kernel 5.4", SPLIT),
+    # A map of an object with which this one is to be linked.
+    ("check clang14.bpfel.unlinked.o --kernel 6.1", UNLINKED),
+    ("sanitize clang14.bpfel.unlinked.o -o - --kernel 6.1", UNLINKED),
+    # The names of a module's types, over a base of the same types and other strings.
+    ("header module1.btf --base shifted.btf", OTHER_BASE),
+    ("layout module1.btf port --base shifted.btf", OTHER_BASE),
     (
         "dump distilled.x86_64.module.o --base base.btf",
         "the table continues a distilled base, the section .BTF.base, which is not read",
@@ -110,6 +133,7 @@ FILES = {
     "vmlinux": "base.btf",
     "m.btf": "module1.btf",
     "n.btf": "module2.btf",
+    "other": "shifted.btf",
 }
 
 MISSING = "error: the following required arguments were not provided:\n  "
@@ -126,11 +150,15 @@ COMMAND_LINES = (
     ("dump - --ids 3-9", 2, "", RANGE),
     ("dump - --ids 3..4294967296", 2, "", RANGE),
     ("dump - --ids a..b", 2, "", RANGE),
+    ("dump - --ids 7..5", 2, "", "error: the range of --ids is empty: "),
+    ("dump - --ids 7..7", 2, "", "error: the range of --ids is empty: "),
     ("dump - --kind POINTER", 2, "", "error: invalid value 'POINTER' for '--kind <KIND>'\n"),
     ("dump", 2, "", MISSING + "<FILE>\n"),
     ("dump a.o b.o", 2, "", "error: unexpected argument 'b.o' found\n"),
     ("dump c.o", 1, "", "btfobj: c.o: "),
     ("dump m.btf --base vmlinux", 0, "[315] ", ""),
+    ("dump m.btf --base other", 1, "[315] ENUM ", "btfobj: m.btf: the base seems to be of another kernel: "),
+    ("relocate a.o --target m.btf --base other", 1, "", "btfobj: m.btf: the base seems to be of another kernel: "),
     ("relocate a.o --target m.btf --base vmlinux", 3, "section '.text'\n", ""),
     ("sanitize m.btf --base vmlinux", 2, "", "error: unexpected argument '--base' found\n"),
     ("header a.o", 0, GUARD, ""),

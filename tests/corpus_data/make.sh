@@ -51,6 +51,9 @@ awk -v RS= -v ORS='\n\n' '/^#/ || / u(8|64);$/ || /^struct node/' clang14.bpfeb.
     sed '$d' >clang14.bpfeb.kinds.o.node
 awk -v RS= -v ORS='\n\n' '/^#/ || / u(8|32);$/ || /^union number/' clang14.bpfeb.kinds.o.header |
     sed '$d' >clang14.bpfeb.kinds.o.union
+# Of the header of an object, the declaration of the structure to which a parameter points.
+awk -v RS= -v ORS='\n\n' '/^#/ || /^struct task_struct/' clang14.bpfel.prog.o.header |
+    sed '$d' >clang14.bpfel.prog.o.check
 # Tables that no compiler writes. names.btf.header is written by hand.
 python3 hostile.py
 for object in clang*.bpf*.o; do
@@ -82,6 +85,10 @@ for module in 1 2 3; do
 done
 llvm-objcopy-14 --remove-section='.debug*' --add-section .BTF.base=module3.btf module.o distilled.x86_64.module.o
 rm base.o module.o
+python3 shifted.py
+# An object that has to be linked with another one.
+clang-14 -g $flags -target bpfel -c unlinked.c -o clang14.bpfel.unlinked.o
+llvm-strip-14 --strip-debug --keep-section=.BTF --keep-section=.BTF.ext clang14.bpfel.unlinked.o
 # What libbpf 1.1.2 does to an object, which has to be in the machine's byte order: here, and on s390x, which qemu-user
 # emulates with the packages libbpf-dev:s390x, libelf-dev:s390x and zlib1g-dev:s390x in the folder of $S390X.
 gcc -O1 core_log.c -Wl,--wrap=syscall -o core_log.el -l:libbpf.a -lelf -lz

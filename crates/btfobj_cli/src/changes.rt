@@ -6,6 +6,7 @@ ghost use Rattle.btfobj_cli.specs.Changes.{Checks, has_changed, lacks_any};
 use crate::fault::Fault;
 use crate::input_file::InputFile;
 use crate::rewrite::{Rewrite, sanitize_parsed_input};
+use crate::split::continues_base;
 use btf_model::Endianness;
 use btf_records::BtfType;
 use btf_rewrite_model::{FeatureAnswer, feature_name};
@@ -27,7 +28,8 @@ pub struct Checked {
 
 /// Writes a line for each feature that a file's table needs, with whether the kernel has the feature, and a line for
 /// each type that a rewrite for the kernel changes or adds. Returns whether there is a feature that the kernel lacks,
-/// and whether there is such a type. The errors are those of `sanitize` and of `InputFile::whole_table`, and `Write`.
+/// and whether there is such a type. The errors are those of `sanitize` and of `InputFile::table`, `SplitRewrite` if
+/// names or ids of types are not in the table, and `Write`.
 pub fn check<W: io::Write, H: BuildHasher + Clone + Drop>(
     alloc: Global,
     bytes: &[u8],
@@ -38,7 +40,10 @@ pub fn check<W: io::Write, H: BuildHasher + Clone + Drop>(
     ensures { IfOk result (Checks bytes.now rewrite.now) }
 {
     let input = InputFile::read(alloc, bytes)?;
-    let old = input.whole_table(alloc)?;
+    let old = input.table(alloc)?;
+    if continues_base(&old) {
+        return Err(Fault::SplitRewrite);
+    }
     let (written, answers) = sanitize_parsed_input(alloc, &input, &old, rewrite, hash_builder)?;
     let new = InputFile::read(alloc, &written)?.table(alloc)?;
     let mut text = TextBuffer::new(out);

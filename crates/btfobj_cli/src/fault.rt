@@ -36,6 +36,16 @@ pub enum Fault {
     #[error("names or ids are not in the table, as in split BTF, whose base --base names")]
     Split,
 
+    /// The table continues a base, and a rewrite takes only tables that are whole.
+    #[error("the table is split, as a module's, and its names or ids are in a base: \
+         check and sanitize rewrite only a whole table, and have no --base")]
+    SplitRewrite,
+
+    /// The base does not have what this type names.
+    #[error("the base seems to be of another kernel: a name of type {0} does not begin where a string begins, \
+         or its type is missing")]
+    OtherBase(u32),
+
     /// The object's table continues a part of its base, which is in the object too.
     #[error("the table continues a distilled base, the section .BTF.base, which is not read")]
     DistilledBase,
@@ -48,6 +58,11 @@ pub enum Fault {
     #[error("the target's table has the other byte order")]
     OtherOrder,
 
+    /// The size of a section is unknown, because another object defines variables of it.
+    #[error("a variable is extern and not in the object: \
+         link it with the object that has it, as bpftool gen object does")]
+    Unlinked,
+
     /// The code of the object cannot be relocated.
     #[error("{0}")]
     Relocation(LoaderError),
@@ -59,6 +74,10 @@ pub enum Fault {
     /// No type of the table has the selected name.
     #[error("no type has this name")]
     NoType,
+
+    /// No type of the table has a selected id; this is the last one.
+    #[error("no type has such an id, the last one is {0}")]
+    NoId(u32),
 
     /// The name is that of a type of this kind.
     #[error("{0} has no layout: name a structure, a union, or a typedef of one")]

@@ -5,7 +5,7 @@ ghost use Rattle.btfobj_cli.specs.InputFile.{IsFirstSection};
 ghost use Rattle.btfobj_cli.specs.Fault.{LacksSection};
 
 use crate::fault::Fault;
-use crate::split::continues_base;
+use crate::split::{check_base, continues_base};
 use btf_elf::Object;
 use btf_model::Endianness;
 use btf_split::parse_split;
@@ -121,16 +121,14 @@ impl<'a> InputFile<'a> {
         }
     }
 
-    /// The table over its base, as `table_over` returns it, with its errors. Without a base the error is `Split` if
-    /// names or ids of its types are not in it.
+    /// The table over its base, as `table_over` returns it, with its errors. If names or ids of its types are not in
+    /// it, the error is `Split` without a base, and `OtherBase` with one.
     pub fn whole_table_over(&self, alloc: Global, base: Option<&Btf>) -> Result<Btf, Fault>
         ensures { IfOk result (λ table. MatchOption base.entry (HasFileTable self.now table)
             (λ base. HasSplitTable self.now base.now table)) }
     {
         let table = self.table_over(alloc, base)?;
-        if base.is_none() && continues_base(&table) {
-            return Err(Fault::Split);
-        }
+        check_base(&table, base)?;
         Ok(table)
     }
 

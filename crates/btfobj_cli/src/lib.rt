@@ -11,6 +11,7 @@ mod report;
 mod request;
 mod rewrite;
 mod split;
+mod unlinked;
 
 pub use changes::{Checked, check};
 pub use compatibility::compat;
@@ -20,3 +21,5 @@ pub use relocation::{Ending, Form, Relocated, list_relocations, relocate};
 pub use report::{dump, ext, header, layout};
 pub use request::{Relocation, Request, read_request, running_base};
 pub use rewrite::{Rewrite, file_has_externs, sanitize, table_alone};
+pub use split::is_split;
+pub use unlinked::explain;

@@ -2,7 +2,7 @@
 
 use crate::fault::Fault;
 use crate::input_file::InputFile;
-use crate::split::continues_base;
+use crate::split::check_base;
 use btf_plain::{BtfError, BtfKind};
 use btf_table::{Btf, allocator_of, type_count};
 use btf_text::{
@@ -26,9 +26,9 @@ const OTHERS: [BtfKind; 8] = [
 ];
 
 /// Writes the selected types of a file's table, as `write_dump` does; with a base, those that the file adds to it. The
-/// table is parsed before anything is written. Without a base the error is `Split`, after the types are written, if
-/// names or ids of types are not in the table. It is `NoType` if a name is selected, and no type has it and meets the
-/// other conditions.
+/// table is parsed before anything is written. The error is `NoId` if ids are selected, and no type has one of them.
+/// After the types are written it is `Split` without a base, and `OtherBase` with one, if names or ids are not in the
+/// table. It is `NoType` if a name is selected, and no type has it and meets the other conditions.
 pub fn dump<W: Write>(
     alloc: Global,
     bytes: &[u8],
@@ -37,12 +37,12 @@ pub fn dump<W: Write>(
     out: &mut W,
 ) -> Result<(), Fault> {
     let table = InputFile::read(alloc, bytes)?.table_over(alloc, base)?;
+    let selection = above(base, selection);
+    check_ids(&table, &selection)?;
     let mut text = TextBuffer::new(out);
-    let is_any = write_dump(&table, &above(base, selection), &mut text)?;
+    let is_any = write_dump(&table, &selection, &mut text)?;
     text.flush()?;
-    if base.is_none() && continues_base(&table) {
-        return Err(Fault::Split);
-    }
+    check_base(&table, base)?;
     if selection.name.is_some() && !is_any {
         return Err(Fault::NoType);
     }
@@ -59,6 +59,17 @@ fn above<'a>(base: Option<&Btf>, selection: &Selection<'a>) -> Selection<'a> {
         from: Some(selection.from.unwrap_or(first).max(first)),
         ..*selection
     }
+}
+
+/// The error is `NoId` if ids are selected, and no type has one of them. A table without types has no error.
+fn check_ids(table: &Btf, selection: &Selection<'_>) -> Result<(), Fault> {
+    let count = type_count(table);
+    let from = selection.from.unwrap_or(0).max(1);
+    let to = selection.to.unwrap_or(count).min(count);
+    if from < to || count == 1 {
+        return Ok(());
+    }
+    Err(Fault::NoId(count.saturating_sub(1)))
 }
 
 /// Writes types of a file's table as a C header, as `write_header` does: the types of these names and this kind, and

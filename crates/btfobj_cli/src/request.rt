@@ -239,6 +239,10 @@ fn read_selection<'a>(
         return Ok(selection);
     };
     match read_range(ids) {
+        Some((Some(from), Some(to))) if from >= to => Err(refusal(
+            command,
+            "the range of --ids is empty: it has no id from A on and below B",
+        )),
         Some((from, to)) => {
             selection.from = from;
             selection.to = to;
