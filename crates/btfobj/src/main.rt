@@ -7,10 +7,11 @@ mod output;
 mod relocate;
 mod run;
 
-use crate::run::carry_out;
+use crate::run::{carry_out, report_output};
 use btfobj_cli::read_request;
 use clap::Error;
 use std::alloc::{AllocError, Global};
+use std::io::ErrorKind;
 use std::process::ExitCode;
 use std::{env, io};
 
@@ -32,6 +33,17 @@ fn read_words(rt: &HostRuntime) -> io::Result<Vec<String>> {
     Ok(words)
 }
 
+/// Why the command line cannot be read.
+fn why_unread(error: &io::Error) -> &'static str {
+    match error.kind() {
+        ErrorKind::InvalidData => {
+            "a word of the command line is not UTF-8; give such a file as standard input, by -"
+        }
+        ErrorKind::OutOfMemory => "out of memory",
+        _ => "cannot read the command line",
+    }
+}
+
 /// The words as borrowed texts.
 fn lend(alloc: Global, words: &[String]) -> Result<Vec<&str>, AllocError> {
     let mut lent = Vec::with_capacity(alloc, words.len())?;
@@ -43,18 +55,22 @@ fn lend(alloc: Global, words: &[String]) -> Result<Vec<&str>, AllocError> {
 
 /// Prints an error of the command line, the help, or the version, and returns the status.
 fn print_error(rt: &HostRuntime, error: &Error) -> ExitCode {
-    let status = if error.use_stderr() { 2 } else { 0 };
+    let is_refusal = error.use_stderr();
     match error.print(rt) {
-        Ok(()) => ExitCode::from(status),
-        Err(_e) => ExitCode::FAILURE,
+        Ok(()) => ExitCode::from(if is_refusal { 2 } else { 0 }),
+        Err(_e) if is_refusal => ExitCode::FAILURE,
+        Err(e) => report_output(rt, &e),
     }
 }
 
 fn main(rt: HostRuntime) -> ExitCode {
     enlarge_heap_pieces(rt.alloc());
-    let Ok(words) = read_words(&rt) else {
-        let _ = eprintln!(rt; "btfobj: cannot read the command line");
-        return ExitCode::from(2);
+    let words = match read_words(&rt) {
+        Ok(words) => words,
+        Err(e) => {
+            let _ = eprintln!(rt; "btfobj: {}", why_unread(&e));
+            return ExitCode::from(2);
+        }
     };
     let Ok(words) = lend(rt.alloc(), &words) else {
         let _ = eprintln!(rt; "btfobj: out of memory");

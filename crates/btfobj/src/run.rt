@@ -9,8 +9,8 @@ use btf_rewrite_model::{BtfFeature, FeatureAnswer};
 use btf_table::Btf;
 use btf_text::Selection;
 use btfobj_cli::{
-    Ending, Fault, InputFile, Request, Rewrite, check, compat, dump, ext, file_has_externs, header,
-    layout, running_base, sanitize, table_alone,
+    Ending, Fault, InputFile, Request, Rewrite, check, compat, dump, explain, ext,
+    file_has_externs, header, is_split, layout, running_base, sanitize, table_alone,
 };
 use std::alloc::Global;
 use std::hash::RandomState;
@@ -108,18 +108,23 @@ pub fn carry_out(rt: &HostRuntime, request: &Request<'_>) -> ExitCode {
 
 /// Reports a failure, with the reason if standard output failed, and returns the status. A closed pipe is not reported.
 fn report(rt: &HostRuntime, failure: &Failure<'_>, output: Option<io::Error>) -> ExitCode {
-    // An error of standard error cannot be reported.
     match output {
-        Some(reason) if reason.kind() == ErrorKind::BrokenPipe => {
-            return ExitCode::from(CLOSED_PIPE);
-        }
-        Some(reason) => {
-            let _ = eprintln!(rt; "btfobj: cannot write standard output: {reason}");
-        }
+        Some(reason) => report_output(rt, &reason),
         None => {
+            // An error of standard error cannot be reported.
             let _ = eprintln!(rt; "{failure}");
+            ExitCode::FAILURE
         }
     }
+}
+
+/// Reports that standard output failed, and returns the status. A closed pipe is not reported.
+pub fn report_output(rt: &HostRuntime, reason: &io::Error) -> ExitCode {
+    if reason.kind() == ErrorKind::BrokenPipe {
+        return ExitCode::from(CLOSED_PIPE);
+    }
+    // An error of standard error cannot be reported.
+    let _ = eprintln!(rt; "btfobj: cannot write standard output: {reason}");
     ExitCode::FAILURE
 }
 
@@ -239,7 +244,8 @@ fn check_file<'a>(
 ) -> Result<Answer, Failure<'a>> {
     let bytes = read(rt, file)?;
     let keys = hasher(rt, file)?;
-    let checked = blame(file, check(rt.alloc(), &bytes, rewrite, keys, out))?;
+    let checked = check(rt.alloc(), &bytes, rewrite, keys, out);
+    let checked = blame_rewrite(rt, file, &bytes, checked)?;
     let ending = match target {
         Some(target) => summarize(rt, file, &bytes, target, out)?,
         None => Ending::Written,
@@ -284,6 +290,22 @@ pub fn blame<'a, T>(file: &'a str, outcome: Result<T, Fault>) -> Result<T, Failu
     }
 }
 
+/// Attributes the fault of a rewrite of a file's bytes to the file.
+fn blame_rewrite<'a, T>(
+    rt: &HostRuntime,
+    file: &'a str,
+    bytes: &[u8],
+    outcome: Result<T, Fault>,
+) -> Result<T, Failure<'a>> {
+    match outcome {
+        Ok(value) => Ok(value),
+        Err(e) => Err(Failure {
+            file,
+            cause: Cause::Fault(explain(rt.alloc(), bytes, e)),
+        }),
+    }
+}
+
 /// The bytes of a rewritten file, or of its table alone, and whether a new object lacks the externs of the old one.
 fn sanitize_file<'a>(
     rt: &HostRuntime,
@@ -292,8 +314,12 @@ fn sanitize_file<'a>(
     is_table_only: bool,
 ) -> Result<(Vec<u8>, Answer), Failure<'a>> {
     let bytes = read(rt, file)?;
+    if is_split(rt.alloc(), &bytes) {
+        return blame(file, Err(Fault::SplitRewrite));
+    }
     let keys = hasher(rt, file)?;
-    let (written, answers) = blame(file, sanitize(rt.alloc(), &bytes, rewrite, keys))?;
+    let sanitized = sanitize(rt.alloc(), &bytes, rewrite, keys);
+    let (written, answers) = blame_rewrite(rt, file, &bytes, sanitized)?;
     if is_table_only {
         let table = blame(file, table_alone(rt.alloc(), &written))?;
         return Ok((table, Answer::Yes));
