@@ -49,9 +49,9 @@ pub fn check_base(table: &Btf, base: Option<&Btf>) -> Result<(), Fault> {
     }
 }
 
-/// The first type from an id on that does not fit the base of a table: a name of the type or of its items does not begin
-/// where a string begins, or the type refers to an id that the table does not have. Writers of BTF store each string
-/// whole, and over the strings of another base most offsets are inside of one.
+/// The first type from an id on that does not fit the base of a table: a name of the type or of its items does not
+/// begin where a string begins, or the type refers to an id that the table does not have. Writers of BTF store each
+/// string whole, and over the strings of another base most offsets are inside of one.
 fn first_misfit(table: &Btf, first: u32) -> Option<u32> {
     let (strings, count) = (string_section(table), type_count(table));
     for (id, btf_type) in (0..count).zip(table.types()).skip(first as usize) {
