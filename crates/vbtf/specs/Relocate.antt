@@ -134,7 +134,7 @@ FillsRelocated status object target options old new needed tally =
     × IsRelocated object target (shares_candidates options) outcomes file
     × (refuses_records options ≡ true → any_error outcomes ≡ false)
     × (length file ≡ length object)
-    × Counts tally (all_outcomes outcomes) × Fills file old new needed status
+    × Counts tally (all_reports outcomes) × Fills file old new needed status
 
 -- The outcomes of a call that relocates an object: the relocated object, and nothing is a reason to refuse it; or the
 -- first reason or a failed allocation, and the buffer and the tally are unchanged.

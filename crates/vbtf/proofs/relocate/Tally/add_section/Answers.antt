@@ -10,7 +10,7 @@ use Rattle.vbtf.specs.Relocate.{Counts}
 use Rattle.vbtf.proofs.relocate.Tally.add_section.Goals as goal
 
 -- a report to read where there is none
-none : Report
+abbrev none : Report
 none = record { outcome = Ok Written; matched = Nothing; change = NoField }
 
 -- the reports so far, with the next one
