@@ -47,5 +47,8 @@ function end_line() {
     }
 }
 # libbpf refuses the object at the record after the last one that it patched.
-/^not loaded$/ { line = "refused" }
+/^not loaded$/ {
+    end_line()
+    line = "refused"
+}
 END { end_line() }
