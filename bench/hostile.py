@@ -18,8 +18,10 @@ the family, its size, the least time in microseconds, and the nanoseconds of a u
   have the same hash under the default hasher. `keyedsections`: the same, with a hasher that has random keys.
 - `twins`: N fields that the kernel lacks, each searched in a STRUCT of 40 levels, of which each has two members without
   a name of the level below. `namesakes`: one field, with N STRUCTs of its type's name in the kernel, which lack it.
-  `fields`: N fields of one STRUCT. `levels`: N elements, each of an array of 63 dimensions. `loops`: N fields of a
-  TYPEDEF of itself.
+  `locals`: the fields of N STRUCTs of that name, with as many in the kernel: each record is refused, and so is that of
+  `namesakes`, from 257 on. `matches`: N records of kind 12 about two STRUCTs of 1,024 members, the most that are
+  compared, in reverse order. `fields`: N fields of one STRUCT. `levels`: N elements, each of an array of 63 dimensions.
+  `loops`: N fields of a TYPEDEF of itself.
 - `names`: one name read N times, for names of several lengths, each as the last of the string section and as another.
 
 `relocate` relocates 20,000 random accesses of the types of the table LOCAL against the table TARGET.
@@ -45,7 +47,8 @@ STEP = 16
 # All texts of 32 bytes that begin with these 24 have the same hash under the default hasher. The third word equals the
 # hasher's state after the first two words. So their difference is 0, and the hasher multiplies the last word by it.
 PREFIX = b"kprobe/aaaamnsuiv/8z2fk3"
-OFFSET, EXISTS = 0, 2
+OFFSET, EXISTS, MATCHES = 0, 2, 12
+MEMBERS = 1024
 
 
 class Sketch:
@@ -207,8 +210,36 @@ def levels(sketch):
     return sketch.struct(sketch.text(b"s"), [(sketch.text(b"m"), element)])
 
 
+def structs(sketch, count):
+    """Appends STRUCTs of one name, which each have another member than `m`, and returns their ids."""
+    to, name, member = sketch.int(), sketch.text(b"s"), sketch.text(b"other")
+    return [sketch.struct(name, [(member, to)]) for _ in range(count)]
+
+
+def namesakes(size):
+    """The tables and lines of `locals`."""
+    local, kernel = Sketch(), Sketch()
+    structs(kernel, size)
+    access = local.text(b"0:0")
+    return local, kernel, "".join(f"{it} {access} {EXISTS}\n" for it in structs(local, size))
+
+
+def matches(size):
+    """The tables and lines of `matches`."""
+    tables = Sketch(), Sketch()
+    for table, order in zip(tables, (1, -1)):
+        to, name = table.int(), table.text(b"s")
+        members = [(table.text(b"m%d" % it), to) for it in range(MEMBERS)]
+        type_id = table.struct(name, members[::order])
+    return *tables, f"{type_id} {tables[0].text(b'0')} {MATCHES}\n" * size
+
+
 def relocated(family, size):
     """The tables of a family of relocations, and the lines of the records."""
+    if family == "locals":
+        return namesakes(size)
+    if family == "matches":
+        return matches(size)
     local, kernel, indices, kind = Sketch(), Sketch(), 2, OFFSET
     if family == "levels":
         levels(kernel)
@@ -221,9 +252,7 @@ def relocated(family, size):
         twins(kernel)
         kind = EXISTS
     elif family == "namesakes":
-        to, name, member = kernel.int(), kernel.text(b"s"), kernel.text(b"other")
-        for _ in range(size):
-            kernel.struct(name, [(member, to)])
+        structs(kernel, size)
         size, kind = 1, EXISTS
     elif family == "fields":
         one_member(kernel, b"s", b"m")
@@ -235,7 +264,7 @@ FAMILIES = {
     **{it: compared for it in ("collide", "fan", "nest", "rings", "flood", "floodrings")},
     **{it: rewritten for it in ("longname", "listing", "entries", "symbols", "datasecs")},
     **{it: sections for it in ("sections", "collidedsections", "keyedsections")},
-    **{it: relocated for it in ("twins", "namesakes", "fields", "levels", "loops")},
+    **{it: relocated for it in ("twins", "namesakes", "locals", "matches", "fields", "levels", "loops")},
 }
 
 

@@ -45,6 +45,9 @@ WITH_EXTERNS = ("clang14.bpfel.prog.o", "clang14.bpfeb.prog.o", "clang16.bpfel.k
 FIRST_DATASECS = "5.2"
 WITHOUT_EXTERNS = 4
 
+# The objects with hidden functions and variables.
+WITH_HIDDEN = ("clang14.bpfel.hidden.o", "clang14.bpfeb.hidden.o")
+
 # A rewrite that is refused: the object, the first of the versions, and the error. No object has a section of this name,
 # so a DATASEC of it has a size only after its table is finalized.
 UNFINALIZED = ("clang16.bpfel.kconfig.o", "5.2", "Unable to determine the size of section `.kconfig`")
@@ -153,9 +156,10 @@ COMMAND_LINES = (
     ("dump - --ids 7..5", 2, "", "error: the range of --ids is empty: "),
     ("dump - --ids 7..7", 2, "", "error: the range of --ids is empty: "),
     ("dump - --kind POINTER", 2, "", "error: invalid value 'POINTER' for '--kind <KIND>'\n"),
-    ("dump", 2, "", MISSING + "<FILE>\n"),
-    ("dump a.o b.o", 2, "", "error: unexpected argument 'b.o' found\n"),
+    ("dump", 2, "", MISSING + "<FILE>...\n"),
+    ("dump a.o b.o --ids 3", 0, "\nFile: a.o\n[3] ARRAY '(anon)' type_id=2 ", ""),
     ("dump c.o", 1, "", "btfobj: c.o: "),
+    ("dump c.o b.o", 1, "\nFile: c.o\n\nFile: b.o\n[1] PTR ", "btfobj: c.o: "),
     ("dump m.btf --base vmlinux", 0, "[315] ", ""),
     ("dump m.btf --base other", 1, "[315] ENUM ", "btfobj: m.btf: the base seems to be of another kernel: "),
     ("relocate a.o --target m.btf --base other", 1, "", "btfobj: m.btf: the base seems to be of another kernel: "),
@@ -170,7 +174,9 @@ COMMAND_LINES = (
     ("layout a.o node", 1, "", "btfobj: a.o: unknown BTF type `node`\n"),
     ("layout a.o", 2, "", MISSING + "<NAME>\n"),
     ("ext a.o", 0, "section '.text'\n\tfunction insn_off=0 ", ""),
+    ("ext a.o a.o", 0, "\nFile: a.o\nsection '.text'\n\tfunction insn_off=0 ", ""),
     ("check a.o --kernel 5.4", 1, "DataSec: needed\n", ""),
+    ("check a.o b.o --kernel 5.4", 1, "\nFile: a.o\nDataSec: needed\n", ""),
     ("check a.o --kernel 5.15.0-91-generic", 0, "DataSec: needed\n", ""),
     ("check a.o --kernel 6", 0, "DataSec: needed\n", ""),
     ("check a.o --kernel 4.17.3", 2, "", "error: the first version of Linux with BTF is 4.18\n"),
@@ -186,12 +192,19 @@ COMMAND_LINES = (
     ("sanitize a.o -o 5.o --kernel 5.1", 4, "", "btfobj: a.o: the new table has no DATASEC for the externs of the object,"),
     ("sanitize b.o -o 6.o --kernel 5.1", 0, "", "btfobj: b.o: the new table has no DATASEC, from which a loader "),
     ("sanitize a.o -o a.btf --kernel 4.18 --table-only", 0, "", ""),
+    ("sanitize a.o b.o -o 4.o --kernel 6.0", 2, "", "error: unexpected argument 'b.o' found\n"),
     ("sanitize a.o -o 4.o --has Bpf", 2, "", "error: invalid value 'Bpf' for '--has <FEATURE>'\n"),
     # The table of the running kernel may be missing, and may have any types.
     ("relocate a.o", None, "section '.text'\n", "btfobj: /sys/kernel/btf/vmlinux: "),
     ("relocate a.o --target kernel.btf -o 5.o --fresh --keep-going", 3, "", ""),
     ("relocate a.o --target vmlinux --target m.btf --target n.btf", 3, "section '.text'\n", ""),
     ("relocate a.o --target vmlinux --allow-poison", 0, "section '.text'\n", ""),
+    ("relocate a.o a.o --target vmlinux", 3, "\nFile: a.o\nsection '.text'\n", ""),
+    # An error of one file goes before a poisoned instruction of another one.
+    ("relocate a.o c.o --target vmlinux", 1, "\nFile: a.o\nsection '.text'\n", "btfobj: c.o: "),
+    ("relocate c.o a.o --target vmlinux", 1, "\nFile: c.o\n\nFile: a.o\nsection '.text'\n", "btfobj: c.o: "),
+    ("relocate a.o a.o --target vmlinux --json", 2, "", "error: -o and --json take one FILE\n"),
+    ("relocate a.o a.o --target vmlinux -o 4.o", 2, "", "error: -o and --json take one FILE\n"),
     ("relocate a.o --target", 2, "", "error: a value is required for '--target <TABLE>' "),
     ("relocate a.o --kernel 5.4", 2, "", "error: unexpected argument '--kernel' found\n"),
     ("compat a.o b.o int event", 1, "int: compatible\nevent: not in the second file\n", ""),

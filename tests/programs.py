@@ -95,6 +95,12 @@ def digits_shown(values):
 
 
 @call
+def bits(values, name):
+    """The number of bits of an INT."""
+    return asks(f"bits {values.order} {hexed(values.data[name])}")
+
+
+@call
 def record(values, name):
     """A record that is read from words: its kind, its length in bytes, its size, and the type that it refers to; then
     its words. Its clone has the same."""

@@ -1056,7 +1056,7 @@ VBTF_INLINE uint32_t vbtf_size(const struct vbtf_table *table, uint32_t id, uint
 }
 
 /*
- * The alignment of a type in bytes, by libbpf's rule with pointers of 8 bytes (docs/LAYOUT.md). For many types,
+ * The alignment of a type in bytes, by libbpf's rule with pointers of 8 bytes (docs/TABLES.md). For many types,
  * vbtf_alignments is faster.
  *
  * VBTF_UNKNOWN_TYPE of an id that has no type; VBTF_UNEXPECTED_TYPE of the id of a type without an alignment;

@@ -59,16 +59,19 @@ python3 hostile.py
 for object in clang*.bpf*.o; do
     llvm-objdump-19 -d -l -r --no-show-raw-insn "$object" | awk -f lines.awk | LC_ALL=C sort >"$object.objdump"
 done
-# Programs in several sections, and kernels with two structures of one name.
-for programs in 1 2 3 4 5 6; do
-    clang-14 -g $flags -target bpfel -DPROGRAMS=$programs -c shared.c -o clang14.bpfel.shared$programs.o
-    llvm-strip-14 --strip-debug --keep-section=.BTF --keep-section=.BTF.ext clang14.bpfel.shared$programs.o
+# Programs in several sections, and kernels with several structures of one name, which are drawn.
+python3 family.py 3
+for programs in shared*.c; do
+    object=clang14.bpfel.${programs%.c}.o
+    clang-14 -g $flags -target bpfel -c "$programs" -o "$object"
+    llvm-strip-14 --strip-debug --keep-section=.BTF --keep-section=.BTF.ext "$object"
 done
-for kernel in 1 2 3 4; do
-    clang-14 -g -O2 -target bpfel -DKERNEL=$kernel -c namesakes.c -o kernel.o
-    llvm-objcopy-14 --dump-section .BTF=namesakes$kernel.el.btf kernel.o
+for kernel in namesakes*.c; do
+    clang-14 -g -O2 -target bpfel -c "$kernel" -o kernel.o
+    llvm-objcopy-14 --dump-section .BTF="${kernel%.c}.el.btf" kernel.o
     rm kernel.o
 done
+rm shared*.c namesakes*.c
 # Split tables over a base, and what other tools say of them.
 gcc -g -c -fno-eliminate-unused-debug-types base.c -o base.o
 pahole -J base.o
@@ -104,8 +107,8 @@ for object in clang*.bpfe?.reloc.o clang*.bpfe?.prog.o clang*.bpfel.kconfig.o; d
         esac | awk -f core_log.awk >"${object%.o}.kernel$kernel"
     done
 done
-for programs in 1 2 3 4 5 6; do
-    for kernel in 1 2 3 4; do
+for programs in 1 2 3 4 5 6 7 8 9 10 11 12; do
+    for kernel in 1 2 3 4 5 6; do
         echo "== shared$programs namesakes$kernel"
         ./core_log.el clang14.bpfel.shared$programs.o namesakes$kernel.el.btf | awk -f core_log.awk
     done
@@ -115,6 +118,16 @@ rm core_log.el core_log.eb
 for object in clang14.bpfel.prog.o clang16.bpfel.kconfig.o; do
     python3 ../libbpf_open.py "$object" >"$object.externs"
 done
+# Hidden functions and variables, and their linkages in the table that libbpf gives to the kernel.
+for order in el eb; do
+    clang-14 -g $flags -target bpf$order -c hidden.c -o clang14.bpf$order.hidden.o
+    llvm-strip-14 --strip-debug --keep-section=.BTF --keep-section=.BTF.ext clang14.bpf$order.hidden.o
+done
+gcc -O1 -rdynamic linkages.c -o linkages -ldl
+./linkages clang14.bpfel.hidden.o >loaded.btf
+bpftool btf dump file loaded.btf format raw |
+    sed -n "s/^\[[0-9]*\] \(FUNC\|VAR\) '\(.*\)' .*linkage=/\1 \2 /p" >hidden.linkages
+rm linkages loaded.btf
 {
     for version in 13 14 15 16 19; do
         clang-$version --version | head -n 1

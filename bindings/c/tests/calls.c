@@ -410,13 +410,14 @@ static void relocation_texts(void)
 		"the instruction does not have the value of the local type", "the value does not fit in the immediate",
 		"the value does not fit in the offset", "the size of the access is not the size of the local field",
 		"the size of the target's field is not 1, 2, 4 or 8", "the instruction is no load of a 64-bit immediate",
-		"the instruction cannot be patched", "out of memory",
+		"the instruction cannot be patched", "the target has more than 256 candidates",
+		"two types have more than 1048576 pairs of members", "out of memory",
 	};
 	for (uint32_t i = 0; i < sizeof texts / sizeof *texts; i++) {
 		const struct vbtf_error error = AN_ERROR(VBTF_RELOCATION_REFUSED, i + 1, 0, 0, 7);
 		text_of(error.number, &error, texts[i]);
 	}
-	const struct vbtf_error unknown = AN_ERROR(VBTF_RELOCATION_REFUSED, 29, 0, 0, 0);
+	const struct vbtf_error unknown = AN_ERROR(VBTF_RELOCATION_REFUSED, 31, 0, 0, 0);
 	text_of(unknown.number, &unknown, "a relocation has an error");
 }
 

@@ -22,6 +22,9 @@ use Rattle.btf_cli.specs.declared.line.Command.{Command}
 use Rattle.btf_cli.specs.declared.line.Command.TheVariants.{Ask, Rewrite}
 use Rattle.btf_cli.specs.Line.{order_word, AsksQuery, AsksCommand, Asks}
 use Rattle.btf_cli.specs.Answer.{RewritesAsAsked, Writes, Declines, IsAnswer, IsDeclined, IsWritten}
+use Rattle.btf_cli.specs.Fault.{HasFailed}
+use Rattle.btf_cli.specs.declared.fault.Fault.TheVariants as faults
+use Rattle.btf_plain.specs.Error.{refusal_of}
 use Rattle.btf_cli.proofs.Asked.{settings_once}
 
 -- ---- the meaning of the words, if they have one
@@ -163,3 +166,17 @@ declined_alike a b bytes refusal alike is = record { cause = go is.cause }
 pub written_alike : (a b : Line) (old new input : Option (List ℕ)) → SameLine a b → IfSome input (IsWritten old new a) → IfSome input (IsWritten old new b)
 written_alike a b old new None alike written = tt
 written_alike a b old new (Some bytes) alike written = (written.0, answers_alike a b bytes written.0 alike written.1, written.2)
+
+made_alike : (a b : Line) (input : Option (List ℕ)) → SameLine a b → IfSome input (λ bytes. (written : List ℕ) × IsAnswer a bytes written) → IfSome input (λ bytes. (written : List ℕ) × IsAnswer b bytes written)
+made_alike a b None alike made = tt
+made_alike a b (Some bytes) alike made = (made.0, answers_alike a b bytes made.0 alike made.1)
+
+asked_alike : (a b : Line) (input : Option (List ℕ)) (o : Option Refusal) → SameLine a b → IfSome input (λ bytes. IfSome o (IsDeclined a bytes)) → IfSome input (λ bytes. IfSome o (IsDeclined b bytes))
+asked_alike a b None o alike declined = tt
+asked_alike a b (Some bytes) None alike declined = tt
+asked_alike a b (Some bytes) (Some refusal) alike declined = declined_alike a b bytes refusal alike declined
+
+pub failed_alike : (a b : Line) (input old new : Option (List ℕ)) → SameLine a b → HasFailed input old new a → HasFailed input old new b
+failed_alike a b input old new alike (faults.Read, failed) = (faults.Read, failed)
+failed_alike a b input old new alike (faults.Write, failed) = (faults.Write, made_alike a b input alike failed)
+failed_alike a b input old new alike (faults.Btf error, failed) = (faults.Btf error, (failed.0, asked_alike a b input (refusal_of error) alike failed.1))

@@ -28,7 +28,8 @@ use Rattle.btf_cli.specs.declared.line.Query.TheVariants.{Copy, Types, Size, Com
 use Rattle.btf_cli.specs.declared.line.Command.{Command}
 use Rattle.btf_cli.specs.declared.line.Command.TheVariants.{Ask, Rewrite}
 use Rattle.btf_cli.specs.Answer.{ComparesWithin, RewritesAsAsked, Writes, Declines, IsAnswer, IsDeclined}
-use Rattle.btf_cli.specs.Fault.{fault_refusal}
+use Rattle.btf_cli.specs.Fault.{IsReadingFault, FailsBy, HasFailed}
+use Rattle.std.specs.Io.KnownBytes.{Keeps}
 use Rattle.btf_cli.specs.Output.{output_bytes}
 use Rattle.btf_cli.specs.declared.output.Output.{Output}
 use Rattle.btf_cli.specs.declared.fault.Fault.{Fault}
@@ -96,15 +97,53 @@ same_asked {X} line bytes e r setting_asked err =
 
 -- ---- faults
 
--- an error of the bytes that were read is an error of the known input
-pub fault_reported : {X : Type 0} (line : Line) (read : List ℕ) (known : Option (List ℕ)) (e : BtfError) (r : Result X Fault) → IfSome known (λ bytes. read ≡ bytes) → IfSome (refusal_of e) (IsDeclined line read) → IsErrAnd r (λ fault. fault ≡ faults.Btf e)
-    → IfErr r (λ fault. IfSome known (λ bytes. IfSome (fault_refusal fault) (IsDeclined line bytes)))
-fault_reported {X} line read known e r whole setting_asked err =
+-- what is not written to stays as it is
+keeps_itself : (old : Option (List ℕ)) → Keeps old old
+keeps_itself None = tt
+keeps_itself (Some xs) = refl
+
+-- what is so of the bytes that were read is so of the known input
+of_known : (P : List ℕ → Type 0) (read : List ℕ) (known : Option (List ℕ)) → IfSome known (λ bytes. read ≡ bytes) → P read → IfSome known P
+of_known P read None whole p = tt
+of_known P read (Some bytes) whole p = subst P whole p
+
+-- a result that is an error of this fault
+of_fault : {X : Type 0} (P : Fault → Type 0) (fault : Fault) (r : Result X Fault) → P fault → IsErrAnd r (λ other. other ≡ fault) → IfErr r P
+of_fault {X} P fault r p err =
     let q = err_from_is_err_and r err in
-    let here : IfSome known (λ bytes. IfSome (refusal_of e) (IsDeclined line bytes)) =
-    elim known as (λ (o : Option (List ℕ)). IfSome o (λ bytes. read ≡ bytes) → IfSome o (λ bytes. IfSome (refusal_of e) (IsDeclined line bytes)))
-    [ None ↦ λ none. tt | Some bytes ↦ λ is. subst (λ (bs : List ℕ). IfSome (refusal_of e) (IsDeclined line bs)) is setting_asked ] whole in
-    subst (λ (x : Result X Fault). IfErr x (λ fault. IfSome known (λ bytes. IfSome (fault_refusal fault) (IsDeclined line bytes)))) (sym (q.1 ∙ ap (λ (x : Fault). Err x) q.2)) here
+    subst (λ (x : Result X Fault). IfErr x P) (sym (q.1 ∙ ap (λ (f : Fault). Err f) q.2)) p
+
+not_declined : (line : Line) (known : Option (List ℕ)) (o : Option Refusal) → o ≡ None → IfSome known (λ bytes. IfSome o (IsDeclined line bytes))
+not_declined line None o is = tt
+not_declined line (Some bytes) o is = subst (λ (x : Option Refusal). IfSome x (IsDeclined line bytes)) (sym is) tt
+
+fails_to_read : (line : Line) (known old : Option (List ℕ)) (fault : Fault) → IsReadingFault fault → FailsBy fault known old old line
+fails_to_read line known old faults.Read is = keeps_itself old
+fails_to_read line known old faults.Write is = absurd is
+fails_to_read line known old (faults.Btf e) is = (keeps_itself old, not_declined line known (refusal_of e) is)
+
+-- the input cannot be read
+pub reading_fails : {X : Type 0} (line : Line) (known old : Option (List ℕ)) (fault : Fault) (r : Result X Fault) → IsReadingFault fault → IsErrAnd r (λ other. other ≡ fault)
+    → IfErr r (λ other. FailsBy other known old old line)
+reading_fails line known old fault r is = of_fault (λ other. FailsBy other known old old line) fault r (fails_to_read line known old fault is)
+
+-- the command fails, or an allocation
+pub answer_fails : {X : Type 0} (line : Line) (read : List ℕ) (known old : Option (List ℕ)) (e : BtfError) (r : Result X Fault) → IfSome known (λ bytes. read ≡ bytes) → IfSome (refusal_of e) (IsDeclined line read) → IsErrAnd r (λ fault. fault ≡ faults.Btf e)
+    → IfErr r (λ fault. FailsBy fault known old old line)
+answer_fails line read known old e r whole declined =
+    of_fault (λ fault. FailsBy fault known old old line) (faults.Btf e) r (keeps_itself old, of_known (λ bytes. IfSome (refusal_of e) (IsDeclined line bytes)) read known whole declined)
+
+-- the output cannot be written
+pub writing_fails : {X : Type 0} (line : Line) (read written : List ℕ) (known old new : Option (List ℕ)) (r : Result X Fault) → IfSome known (λ bytes. read ≡ bytes) → IsAnswer line read written → IfErr r (λ fault. fault ≡ faults.Write)
+    → IfErr r (λ fault. FailsBy fault known old new line)
+writing_fails line read written known old new (Ok x) whole made is = tt
+writing_fails line read written known old new (Err fault) whole made is =
+    subst (λ (f : Fault). FailsBy f known old new line) (sym is) (of_known (λ bytes. (w : List ℕ) × IsAnswer line bytes w) read known whole (written, made))
+
+-- status 1 is that of an error
+pub fails_by_some : {X : Type 0} (line : Line) (known old new : Option (List ℕ)) (r : Result X Fault) (status : ℕ) → (status ≡ 0) ↔ IsOk r → IfErr r (λ fault. FailsBy fault known old new line) → status ≡ 1 → HasFailed known old new line
+fails_by_some line known old new (Ok x) status ok failed one = absurd (let zero : status ≡ 0 = ok.1 refl in omega arith)
+fails_by_some line known old new (Err fault) status ok failed one = (fault, failed)
 
 -- ---- statuses
 

@@ -1,12 +1,11 @@
 //! The program over any streams.
 
-ghost use Rattle.std.specs.Prelude.{◌≡◌, ◌≢◌, ◌≤◌, ◌↔◌, None, IfOk, IfErr, OnOk, OnErr, IfSome, IsOk, IsErr};
+ghost use Rattle.std.specs.Prelude.{◌≡◌, ◌≤◌, ◌↔◌, IfOk, IfErr, OnOk, OnErr, IfSome, IsOk, IsErr};
 ghost use Rattle.std.specs.Io.KnownBytes.{IsAtEnd, Keeps};
 ghost use Rattle.btf_plain.specs.Error.{refusal_of};
 ghost use Rattle.btf_cli.specs.declared.line.Command.TheVariants.{Ask};
 ghost use Rattle.btf_cli.specs.declared.line.Line.{Line};
-ghost use Rattle.btf_cli.specs.declared.fault.Fault.TheVariants as faults;
-ghost use Rattle.btf_cli.specs.Fault.{fault_refusal};
+ghost use Rattle.btf_cli.specs.Fault.{IsReadingFault, FailsBy, HasFailed};
 ghost use Rattle.btf_cli.specs.Line.{Asks, IfAsked, IsCommandLine};
 ghost use Rattle.btf_cli.specs.Answer.{Writes, WritesFor, Declines, IfDeclined, IsAnswer, IsDeclined};
 ghost use Rattle.btf_cli.specs.Output.{output_bytes};
@@ -29,7 +28,7 @@ const USAGE: &str = "usage: btftool little|big copy|types|size ID|compat ID ID|r
 fn read_input<R: Read>(alloc: Global, input: &mut R) -> Result<Vec<u8>, Fault>
     ensures whole { IfOk result (λ v. IfSome (R.remaining input.old) (λ bytes. v.items ≡ bytes)) }
     ensures end { OnOk result (IsAtEnd (R.remaining input.new)) }
-    ensures no_refusal { IfErr result (λ fault. fault_refusal fault ≡ None) }
+    ensures fault { IfErr result (λ fault. IsReadingFault fault) }
 {
     let mut bytes = Vec::new(alloc);
     match input.read_to_end(&mut bytes) {
@@ -90,12 +89,9 @@ fn carry_out<R: Read, W: Write>(
         (W.contents out.old) (W.contents out.new) line.entry) }
     ensures refused { IfDeclined (R.remaining input.old) line.entry
         (IsErr result × Keeps (W.contents out.old) (W.contents out.new)) }
-    // An error of the table has this cause.
-    ensures reported { IfErr result (λ fault. IfSome (R.remaining input.old) (λ bytes.
-        IfSome (fault_refusal fault) (IsDeclined line.entry bytes))) }
-    // The table's errors are found before the first byte is written.
-    ensures untouched { IfErr result (λ fault. fault ≢ faults.Write
-        → Keeps (W.contents out.old) (W.contents out.new)) }
+    // All errors but those of writing are found before the first byte is written.
+    ensures failed { IfErr result (λ fault. FailsBy fault (R.remaining input.old)
+        (W.contents out.old) (W.contents out.new) line.entry) }
     ensures end { OnOk result (IsAtEnd (R.remaining input.new)) }
 {
     let blob = read_input(alloc, input)?;
@@ -145,6 +141,10 @@ pub fn run<R: Read, W: Write, E: Write>(
     // output.
     ensures refused { IfAsked words.now (λ l. IfDeclined (R.remaining input.old) l
         ((result ≡ 1) × Keeps (W.contents out.old) (W.contents out.new))) }
+    // Status 1 has a cause. Only if standard output fails, something can be written there, and then the command has an
+    // output.
+    ensures failed { IfAsked words.now (λ line. result ≡ 1 → HasFailed (R.remaining input.old)
+        (W.contents out.old) (W.contents out.new) line) }
 {
     let Some(line) = Line::read(words) else {
         let _ = writeln!(err, "{USAGE}");

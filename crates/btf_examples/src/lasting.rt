@@ -35,9 +35,9 @@ pub fn print_values(rt: &HostRuntime, table: &mut Btf, name: &str) -> Result<(),
     let id = table.id_by_type_name_kind(name, BtfKind::Enum)?;
     for variant in ["PASS", "REDIRECT", "ABORT"] {
         match lasting_value(rt.alloc(), table, id, variant)? {
-            Some(value) => println!(rt; "{variant}: {value}")?,
-            None => println!(rt; "{variant}: no such variant")?,
-        }
+            Some(value) => println!(rt; "{variant}: {value}"),
+            None => println!(rt; "{variant}: no such variant"),
+        }?;
     }
     Ok(())
 }

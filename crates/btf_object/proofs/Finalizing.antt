@@ -29,10 +29,10 @@ pub record Replaces (id : ℕ) (r : Record) (old new : Table) : Type 0 where
   pub here : record_at new id ≡ r
   pub elsewhere : (k : ℕ) → k ≢ id → record_at new k ≡ record_at old k
 
-at_set : (rs : List Record) (id : ℕ) (r : Record) → id < length rs → unwrap_or (slice_get (set rs id r) id) unknown ≡ r
+pub at_set : (rs : List Record) (id : ℕ) (r : Record) → id < length rs → unwrap_or (slice_get (set rs id r) id) unknown ≡ r
 at_set rs id r lt = unwrap_or-slice_get (set rs id r) id unknown ∙ get_or-set_same rs id r unknown lt
 
-at_other : (rs : List Record) (id k : ℕ) (r : Record) → k ≢ id → unwrap_or (slice_get (set rs id r) k) unknown ≡ unwrap_or (slice_get rs k) unknown
+pub at_other : (rs : List Record) (id k : ℕ) (r : Record) → k ≢ id → unwrap_or (slice_get (set rs id r) k) unknown ≡ unwrap_or (slice_get rs k) unknown
 at_other rs id k r other =
     unwrap_or-slice_get (set rs id r) k unknown ∙ get_or-set_other rs id k r unknown other ∙ sym (unwrap_or-slice_get rs k unknown)
 

@@ -9,3 +9,4 @@ pub mod Externs
 pub mod Globals
 pub mod PutBack
 pub mod Objects
+pub mod Hiding

@@ -12,8 +12,8 @@ use Rattle.std.proofs.lemmas.Option.{slice_get_within, slice_get-get_or, get_or_
 use Rattle.btf_elf_model.specs.Object.{Object, section_name, symbols, symbol_name}
 use Rattle.btf_elf_model.specs.declared.section_header.SectionHeader.{SectionHeader}
 use Rattle.btf_elf_model.specs.declared.symbol.Symbol.{Symbol}
-use Rattle.btf_object.specs.Names.{IsReadSection, IsSectionLeftOut, IsReadSymbol, IsSymbolLeftOut}
-use Rattle.btf_object_model.specs.Layout.{is_askable, last_named, is_read_symbol}
+use Rattle.btf_object.specs.Names.{IsReadSection, IsSectionLeftOut, IsNamedSymbol, IsUnnamed}
+use Rattle.btf_object_model.specs.Layout.{is_askable, last_named}
 use Rattle.btf_rewrite_model.specs.Pass.{Layout}
 use Rattle.btf_plain.specs.declared.section_index.SectionIndex.{SectionIndex}
 
@@ -158,36 +158,35 @@ index_kept false section old rest is = is
 no_symbol : Symbol
 no_symbol = record { name = 0; binding = 0; kind = 0; other = 0; section = 0; value = 0; size = 0 }
 
--- the symbols that are read, with one more
-read_next : (all : List Symbol) (i : ℕ) (s : Symbol) → slice_get all i ≡ Some s → filter is_read_symbol (take (i + 1) all) ≡ filter is_read_symbol (take i all) ++ cond (is_read_symbol s) (s ∷ []) []
-read_next all i s here =
-    let lt : i < length all = slice_get_within all i s here in
-    ap (filter is_read_symbol) (take_next all i s lt) ∙ filter-append is_read_symbol (take i all) (get_or all i s ∷ [])
-    ∙ ap (λ (t : Symbol). filter is_read_symbol (take i all) ++ cond (is_read_symbol t) (t ∷ []) []) (get_or_from_slice_get all i s s here)
+module _ (wants : Symbol → Bool) (number : Symbol → ℕ) where
+  -- the symbols that are wanted, with one more
+  wanted_next : (all : List Symbol) (i : ℕ) (s : Symbol) → slice_get all i ≡ Some s → filter wants (take (i + 1) all) ≡ filter wants (take i all) ++ cond (wants s) (s ∷ []) []
+  wanted_next all i s here =
+      let lt : i < length all = slice_get_within all i s here in
+      ap (filter wants) (take_next all i s lt) ∙ filter-append wants (take i all) (get_or all i s ∷ [])
+      ∙ ap (λ (t : Symbol). filter wants (take i all) ++ cond (wants t) (t ∷ []) []) (get_or_from_slice_get all i s s here)
 
--- a symbol that is read
-pub symbol_push : (o : Object) (i : ℕ) (text : List ℕ) (value : ℕ) (name : List ℕ) → IsReadSymbol o i text value
-    → last_named (symbol_name o) (λ (t : Symbol). t.value) (filter is_read_symbol (take (i + 1) (symbols o))) name
-    ≡ (if bytes_eq text name then Some value else last_named (symbol_name o) (λ (t : Symbol). t.value) (filter is_read_symbol (take i (symbols o))) name)
-symbol_push o i text value name r =
-    let before : List Symbol = filter is_read_symbol (take i (symbols o)) in
-    let number = λ (t : Symbol). t.value in
-    ap (λ ts. last_named (symbol_name o) number ts name) (read_next (symbols o) i r.symbol r.here ∙ ap (λ (b : Bool). before ++ cond b (r.symbol ∷ []) []) r.wanted)
-    ∙ named_push (symbol_name o) number before r.symbol name (ap is_askable (sym r.named) ∙ r.askable)
-    ∙ ap (λ (t : List ℕ). if bytes_eq t name then Some r.symbol.value else last_named (symbol_name o) number before name) (sym r.named)
-    ∙ ap (λ (n : ℕ). if bytes_eq text name then Some n else last_named (symbol_name o) number before name) (sym r.value_is)
+  -- a symbol that is wanted
+  pub symbol_push : (o : Object) (i : ℕ) (text : List ℕ) (value : ℕ) (name : List ℕ) → IsNamedSymbol wants number o i text value
+      → last_named (symbol_name o) number (filter wants (take (i + 1) (symbols o))) name
+      ≡ (if bytes_eq text name then Some value else last_named (symbol_name o) number (filter wants (take i (symbols o))) name)
+  symbol_push o i text value name r =
+      let before : List Symbol = filter wants (take i (symbols o)) in
+      ap (λ ts. last_named (symbol_name o) number ts name) (wanted_next (symbols o) i r.symbol r.here ∙ ap (λ (b : Bool). before ++ cond b (r.symbol ∷ []) []) r.wanted)
+      ∙ named_push (symbol_name o) number before r.symbol name (ap is_askable (sym r.named) ∙ r.askable)
+      ∙ ap (λ (t : List ℕ). if bytes_eq t name then Some (number r.symbol) else last_named (symbol_name o) number before name) (sym r.named)
+      ∙ ap (λ (n : ℕ). if bytes_eq text name then Some n else last_named (symbol_name o) number before name) (sym r.value_is)
 
--- a symbol that is left out
-pub symbol_pass : (o : Object) (i : ℕ) (name : List ℕ) → i < length (symbols o) → IsSymbolLeftOut o i
-    → last_named (symbol_name o) (λ (t : Symbol). t.value) (filter is_read_symbol (take (i + 1) (symbols o))) name ≡ last_named (symbol_name o) (λ (t : Symbol). t.value) (filter is_read_symbol (take i (symbols o))) name
-symbol_pass o i name lt out =
-    let before : List Symbol = filter is_read_symbol (take i (symbols o)) in
-    let number = λ (t : Symbol). t.value in
-    let s : Symbol = get_or (symbols o) i no_symbol in
-    let here : slice_get (symbols o) i ≡ Some s = slice_get-get_or (symbols o) i no_symbol lt in
-    ap (λ ts. last_named (symbol_name o) number ts name) (read_next (symbols o) i s here)
-    ∙ elim (out s here) [
-      | inl unread ↦ ap (λ (b : Bool). last_named (symbol_name o) number (before ++ cond b (s ∷ []) []) name) unread ∙ ap (λ ts. last_named (symbol_name o) number ts name) (append-nil before)
-      | inr left ↦ elim (is_read_symbol s) as (λ (b : Bool). last_named (symbol_name o) number (before ++ cond b (s ∷ []) []) name ≡ last_named (symbol_name o) number before name)
-          [ true ↦ named_pass (symbol_name o) number before s name left | false ↦ ap (λ ts. last_named (symbol_name o) number ts name) (append-nil before) ]
-    ]
+  -- a symbol that is left out
+  pub symbol_pass : (o : Object) (i : ℕ) (name : List ℕ) → i < length (symbols o) → IsUnnamed wants o i
+      → last_named (symbol_name o) number (filter wants (take (i + 1) (symbols o))) name ≡ last_named (symbol_name o) number (filter wants (take i (symbols o))) name
+  symbol_pass o i name lt out =
+      let before : List Symbol = filter wants (take i (symbols o)) in
+      let s : Symbol = get_or (symbols o) i no_symbol in
+      let here : slice_get (symbols o) i ≡ Some s = slice_get-get_or (symbols o) i no_symbol lt in
+      ap (λ ts. last_named (symbol_name o) number ts name) (wanted_next (symbols o) i s here)
+      ∙ elim (out s here) [
+        | inl unwanted ↦ ap (λ (b : Bool). last_named (symbol_name o) number (before ++ cond b (s ∷ []) []) name) unwanted ∙ ap (λ ts. last_named (symbol_name o) number ts name) (append-nil before)
+        | inr left ↦ elim (wants s) as (λ (b : Bool). last_named (symbol_name o) number (before ++ cond b (s ∷ []) []) name ≡ last_named (symbol_name o) number before name)
+            [ true ↦ named_pass (symbol_name o) number before s name left | false ↦ ap (λ ts. last_named (symbol_name o) number ts name) (append-nil before) ]
+      ]

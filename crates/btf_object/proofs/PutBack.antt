@@ -1,15 +1,14 @@
 -- Externs that are put back into a table.
-use Rattle.std.proofs.Common.{◌≡◌, ℕ, zero, suc, ◌+◌, ◌*◌, ◌<◌, ◌≤◌, Bool, true, false, ◌&&◌, List, [], ◌∷◌, ◌++◌, length, get_or, set, take, map, Option, None, Some, refl, sym, ap, subst, ◌∙◌, arith}
-use Rattle.std.specs.Prelude.{◌||◌, ◌==◌, slice_get, if◌then◌else◌}
+use Rattle.std.proofs.Common.{◌≡◌, ℕ, suc, ◌+◌, ◌<◌, ◌≤◌, Bool, true, false, ◌&&◌, List, [], ◌∷◌, ◌++◌, length, get_or, set, take, map, Option, None, Some, refl, sym, ap, ◌∙◌, arith}
+use Rattle.std.specs.Prelude.{◌||◌, if◌then◌else◌}
 use Rattle.std.specs.List.{flat_map, list_any}
 use Rattle.std.proofs.lemmas.Bool.{false≢true}
-use Rattle.std.proofs.lemmas.List.{map-append, take_more, take_all, set-get_or}
+use Rattle.std.proofs.lemmas.List.{map-append, take_more, take_all}
 use Rattle.std.proofs.lemmas.List.Folds.{list_any_at, list_any-append}
-use Rattle.std.proofs.lemmas.Option.{get_or_from_slice_get, unwrap_or-slice_get}
-use Rattle.btf_model.specs.Record as kinds
-use Rattle.btf_model.specs.Record.{Kind, Record, unknown, kind_of, vlen}
+use Rattle.std.proofs.lemmas.Option.{unwrap_or-slice_get}
+use Rattle.btf_model.specs.Record.{Kind, Record, unknown, kind_of}
 use Rattle.btf_model.specs.Table.{Table, Fallback}
-use Rattle.btf_rewrite_model.specs.Made.{Entry, section_entries, record_at, kind_at}
+use Rattle.btf_rewrite_model.specs.Made.{Entry, record_at, kind_at}
 use Rattle.btf_rewrite_model.specs.Ksyms as ksyms
 use Rattle.btf_plain.specs.Items.{code_entry_words}
 use Rattle.btf_plain.specs.declared.items.DataSecEntry.{DataSecEntry}
@@ -17,11 +16,9 @@ use Rattle.btf_records.specs.BtfType.{record_of, fallback_of, type_kind}
 use Rattle.btf_records.specs.declared.btf_type.BtfType.{BtfType}
 use Rattle.btf_records.specs.declared.btf_type.BtfType.TheVariants as BtfTypes
 use Rattle.btf_table.specs.Btf.{IsType, HasShapeOf}
-use Rattle.btf_table.specs.KsymsStep.{model_entry}
 use Rattle.btf_table.proofs.KsymsEntries.{at, zero_entry}
 use Rattle.btf_object_model.specs.Externs as model
 use Rattle.btf_object_model.specs.Externs.{is_still_extern, with_old_extern, with_old_externs, is_still_section, entry_types, with_old_section, with_old_sections, table_has_externs}
-use Rattle.btf_object_model.specs.Finalized.{has_data_sec_kind}
 use Rattle.btf_object_model.specs.Kconfig.{with_record}
 use Rattle.btf_object.specs.Externs.{IsSectionOfExterns, StillSection}
 use Rattle.btf_object.proofs.Externs.{at_id, kind_at_id}

@@ -19,7 +19,7 @@ use Rattle.btf_rewrite_model.specs.declared.ksyms_ids.KsymsIds.{KsymsIds}
 use Rattle.btf_rewrite_model.proofs.Kept.{by_table}
 use Rattle.btf_table.specs.Checked.{checked}
 use Rattle.btf_table.proofs.Checks.{checked_ok, checked_err}
-use Rattle.btf_object_model.specs.Finalized.{with_int, with_variable, has_functions, with_placeholder, with_placeholder_id, placeholder_fault, with_ksyms_size, with_old_sizes}
+use Rattle.btf_object_model.specs.Finalized.{with_int, with_variable, has_functions, with_placeholder, with_ksyms_size, with_old_sizes}
 use Rattle.btf_rewrite_model.specs.FeatureSet.{answers_of}
 use Rattle.btf_object_model.specs.Ksyms.{FindsKsyms}
 use Rattle.btf_object_model.specs.Layout as model
@@ -62,21 +62,18 @@ begun_order : (b : Bool) (t : Table) (ids : Option KsymsIds) → (begun_table b 
 begun_order true t ids = placeholder_order t ids
 begun_order false t ids = refl
 
-module _ (o : Object) (bytes : List ℕ) (has : BtfFeature → Bool) (reader : TableReader) (old base : Table) (layout : Layout) (same : layout ≡ model.object_layout o) (table : IsTable o.header.order bytes old) (opened : IsOpened layout old base) where
+module _ (o : Object) (bytes : List ℕ) (has : BtfFeature → Bool) (reader : TableReader) (old base : Table) (layout : Layout) (same : layout ≡ model.object_layout o) (table : IsTable o.header.order bytes old) (opened : IsOpened o old base) where
   abbrev wanted : Bool
   wanted = takes_placeholder reader has
 
-  opened_so : IsOpened (model.object_layout o) old base
-  opened_so = subst (λ (l : Layout). IsOpened l old base) same opened
-
   -- the search for `.ksyms` fails
   pub refuses_ksyms : (refusal : Refusal) → FindsKsyms base None (Err refusal) → RefusesFinalized o bytes has reader refusal
-  refuses_ksyms refusal finds = inr (old, base, table, opened_so, inl finds)
+  refuses_ksyms refusal finds = inr (old, base, table, opened, inl finds)
 
   module _ (ids : Option KsymsIds) (ksyms : FindsKsyms base None (Ok ids)) where
     -- the placeholder does not fit
     pub refuses_placeholder : (refusal : Refusal) → Err refusal ≡ checked (begun_fault wanted base ids) (begun_ids wanted base ids) → RefusesFinalized o bytes has reader refusal
-    refuses_placeholder refusal is = inr (old, base, table, opened_so, inr (ids, ksyms, inl (checked_err (begun_fault wanted base ids) (begun_ids wanted base ids) refusal is)))
+    refuses_placeholder refusal is = inr (old, base, table, opened, inr (ids, ksyms, inl (checked_err (begun_fault wanted base ids) (begun_ids wanted base ids) refusal is)))
 
     module _ (begun : Table) (given : Option KsymsIds) (begun_is : begun ≡ begun_table wanted base ids) (given_is : Ok given ≡ checked (begun_fault wanted base ids) (begun_ids wanted base ids)) where
       fits : (begun_fault wanted base ids ≡ None) × (given ≡ begun_ids wanted base ids)
@@ -91,7 +88,7 @@ module _ (o : Object) (bytes : List ℕ) (has : BtfFeature → Bool) (reader : T
       -- the rewrite is refused
       pub refuses_rewrite : (refusal : Refusal) → IsRefused FillSized begun given layout (answers_of has) refusal → RefusesFinalized o bytes has reader refusal
       refuses_rewrite refusal is =
-          inr (old, base, table, opened_so, inr (ids, ksyms, inr (fits.0, known_so (λ t i l. IsRefused FillSized t i l (answers_of has) refusal) is)))
+          inr (old, base, table, opened, inr (ids, ksyms, inr (fits.0, known_so (λ t i l. IsRefused FillSized t i l (answers_of has) refusal) is)))
 
       -- the rewrite succeeds, and the sizes are set
       pub rewrites_finalized : (new made : Table) (answers : List FeatureAnswer) (given_bytes : List ℕ) → Rewritten FillSized begun given layout (answers_of has) new
@@ -100,7 +97,7 @@ module _ (o : Object) (bytes : List ℕ) (has : BtfFeature → Bool) (reader : T
       rewrites_finalized new made answers given_bytes is are order made_is written again =
           let order_is : made.order ≡ o.header.order =
           ap (λ (t : Table). t.order) made_is ∙ ap (λ (t : Table). t.order) (reader_others reader old (with_old_sizes (with_ksyms_size base ids) new)) ∙ order ∙ ap (λ (t : Table). t.order) begun_is ∙ begun_order wanted base ids
-          ∙ ap (λ (t : Table). t.order) (opened_others layout old base opened) ∙ table.same_order in
+          ∙ ap (λ (t : Table). t.order) (opened_others o old base opened) ∙ table.same_order in
           let bytes_are : given_bytes ≡ canon (written_table reader old base ids new) = written ∙ ap canon made_is in
           let read : IsTable o.header.order (canon (written_table reader old base ids new)) (strip (written_table reader old base ids new)) =
           subst (λ (t : Table). IsTable o.header.order (canon (written_table reader old base ids new)) (strip t)) made_is
@@ -108,7 +105,7 @@ module _ (o : Object) (bytes : List ℕ) (has : BtfFeature → Bool) (reader : T
             record {
               ids = ids;
               table = table;
-              opened = opened_so;
+              opened = opened;
               ksyms = ksyms;
               fits = fits.0;
               rewritten = known_so (λ t i l. Rewritten FillSized t i l (answers_of has) new) is;

@@ -5,4 +5,5 @@ pub mod Ksyms
 pub mod Finalize
 pub mod Kconfig
 pub mod Externs
+pub mod Hidden
 pub mod Errors

@@ -1,6 +1,7 @@
 //! A table that is finalized from its object, as a loader does before it rewrites the table for a kernel.
 
 mod externs;
+mod hidden;
 mod kconfig;
 mod known;
 mod placeholder;
@@ -10,16 +11,19 @@ mod sized;
 ghost use Rattle.std.specs.Prelude.{◌≡◌, ◌<◌, length, IfErr, OnOk};
 ghost use Rattle.btf_model.specs.Record.{DataSec};
 ghost use Rattle.btf_object_model.specs.Finalized.{IsFinalized};
+ghost use Rattle.btf_object_model.specs.Layout.{object_layout};
 ghost use Rattle.btf_object_model.specs.SanitizedFinalized.{IsOpened};
 ghost use Rattle.btf_object.specs.Finalize.{AreNamesCached, FinalizesAt, layout_in};
 
 pub use crate::finalize::externs::{has_externs, put_externs};
+use crate::finalize::hidden::hide_all;
 use crate::finalize::kconfig::configure;
 use crate::finalize::known::KnownNames;
 pub use crate::finalize::placeholder::add_placeholder;
 use crate::finalize::section::final_section;
 pub use crate::finalize::sized::{set_sizes, sizes_of};
 use crate::layout::ObjectLayout;
+use btf_elf::Object;
 use btf_plain::BtfError;
 use btf_records::BtfType;
 use btf_table::{Btf, set_type, type_count};
@@ -66,16 +70,21 @@ fn finalize<H: BuildHasher>(
     Ok(())
 }
 
-/// Makes of a table what libbpf has of it when it has opened its object: `.kconfig` is laid out, and then the table is
-/// finalized. `OutOfMemory` is the only error.
-pub fn open<H: BuildHasher>(
+/// Makes of a table what libbpf has of it when it has opened its object: `.kconfig` is laid out, the table is finalized,
+/// and hidden functions and variables become Static. `OutOfMemory` is the only error.
+#[tactic(auto, using(crate::proofs::Hiding::opened))]
+pub fn open<H: BuildHasher + Drop>(
     alloc: Global,
     btf: &mut Btf,
+    object: &Object<'_>,
     layout: &ObjectLayout<H>,
+    hash_builder: H,
 ) -> Result<(), BtfError>
-    ensures made { OnOk result (IsOpened (layout_in layout.now) btf.old btf.new) }
+    requires layout { layout_in layout.now ≡ object_layout object.now }
+    ensures made { OnOk result (IsOpened object.now btf.old btf.new) }
     ensures memory { IfErr result (λ e. e ≡ BtfError.OutOfMemory) }
 {
     configure(alloc, btf)?;
-    finalize(alloc, btf, layout)
+    finalize(alloc, btf, layout)?;
+    hide_all(alloc, btf, object, hash_builder)
 }

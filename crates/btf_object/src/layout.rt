@@ -52,10 +52,10 @@ impl<H: BuildHasher> ObjectLayout<H> {
 }
 
 /// `STB_LOCAL`: the binding of a symbol that is not visible in other objects.
-const STB_LOCAL: u8 = 0;
+pub const STB_LOCAL: u8 = 0;
 
 /// `STT_OBJECT`: the type of a symbol of a variable.
-const STT_OBJECT: u8 = 1;
+pub const STT_OBJECT: u8 = 1;
 
 /// Whether the offset of a symbol is read.
 fn is_read(symbol: &Symbol) -> bool

@@ -115,9 +115,10 @@ pub fn sanitize_parsed<H: BuildHasher + Clone + Drop>(
 /// bytes of the new table, and no other section changes.
 ///
 /// Before the rewrite, the variables of `.kconfig` are laid out, DATASECs get the sizes of their sections, and their
-/// entries get the offsets of their variables and are sorted by them. If functions are in `.ksyms`, a variable
-/// `dummy_ksym` is added, which replaces them. A DATASEC that has a size and no entries gets one if the kernel requires
-/// it (`FillPolicy::FillSized`). After the rewrite, a STRUCT that was a DATASEC has the DATASEC's size.
+/// entries get the offsets of their variables and are sorted by them. Global functions and variables whose symbols are
+/// hidden become Static; functions outside `.text` do not, because they are programs. If functions are in `.ksyms`, a
+/// variable `dummy_ksym` is added, which replaces them. A DATASEC that has a size and no entries gets one if the kernel
+/// requires it (`FillPolicy::FillSized`). After the rewrite, a STRUCT that was a DATASEC has the DATASEC's size.
 ///
 /// `TableReader::Kernel` is for a caller that gives the new table to the kernel. `TableReader::Loaders` is for one that
 /// gives the object to libbpf or another loader: each DATASEC named `.ksyms` or `.kconfig`, and each VAR and FUNC that

@@ -154,9 +154,9 @@ pub fn finalize_table<H: BuildHasher + Clone + Drop>(
     ensures refused { IfErr result (λ e. IfSome (refusal_of e)
         (RefusesFinalized object.now table.now (kernel_has kernel.now) reader)) }
 {
-    let layout = ObjectLayout::read(alloc, object, hash_builder)?;
+    let layout = ObjectLayout::read(alloc, object, hash_builder.clone()?)?;
     let mut btf = Btf::parse(alloc, table, object.header().order)?;
-    open(alloc, &mut btf, &layout)?;
+    open(alloc, &mut btf, object, &layout, hash_builder)?;
     let ids = ksyms_of(&btf, None)?;
     let sizes = sizes_of(alloc, &btf, ids)?;
     let ids = begin(&mut btf, ids, kernel, reader)?;

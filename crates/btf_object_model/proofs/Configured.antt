@@ -15,6 +15,9 @@ use Rattle.btf_rewrite_model.specs.Made.{Entry, section_entries, record_at, kind
 use Rattle.btf_rewrite_model.specs.Pass.{Layout}
 use Rattle.btf_object_model.specs.Finalized.{kconfig_name, IsFinalized}
 use Rattle.btf_object_model.specs.Kconfig.{ConfigValue, Extern, config_text, extern_name, extern_of, total, with_externs, FindsText, FindsPlain, FindsResolved, FindsValue, FindsExternBy, FindsExtern, FindsExterns, LaysOut, ConfiguresIf, ConfiguresAt, IsConfigured}
+use Rattle.btf_elf_model.specs.Object.{Object}
+use Rattle.btf_object_model.specs.Hidden.{hidden_type, with_hidden_static}
+use Rattle.btf_object_model.specs.Layout.{object_layout}
 use Rattle.btf_object_model.specs.SanitizedFinalized.{IsOpened}
 use Rattle.btf_object_model.proofs.Unique.{one_sorted, one_finalized}
 
@@ -109,6 +112,8 @@ one_configured : (old a b : Table) → IsConfigured old a → IsConfigured old b
 one_configured old a b x y =
     one_at old x.0 a b x.2 (subst (λ (r : Result ℕ Refusal). ConfiguresAt old r b) (name_has_one old.strings old.records kinds.DataSec kconfig_name y.0 x.0 y.1 x.1) y.2)
 
-pub one_opened : (layout : Layout) (old a b : Table) → IsOpened layout old a → IsOpened layout old b → a ≡ b
-one_opened layout old a b x y =
-    one_finalized layout x.0 a b x.2 (subst (λ (t : Table). IsFinalized layout t b) (one_configured old y.0 x.0 y.1 x.1) y.2)
+pub one_opened : (o : Object) (old a b : Table) → IsOpened o old a → IsOpened o old b → a ≡ b
+one_opened o old a b x y =
+    let layout : Layout = object_layout o in
+    let final : x.1 ≡ y.1 = one_finalized layout x.0 x.1 y.1 x.3 (subst (λ (t : Table). IsFinalized layout t y.1) (one_configured old y.0 x.0 y.2 x.2) y.3) in
+    x.4 ∙ ap (with_hidden_static (hidden_type o)) final ∙ sym y.4

@@ -32,7 +32,7 @@ use Rattle.btf_rewrite_model.specs.declared.feature.FillPolicy.TheVariants.{Fill
 use Rattle.btf_rewrite_model.specs.declared.ksyms_ids.KsymsIds.{KsymsIds}
 use Rattle.btf_rewrite_model.specs.FeatureSet.{answers_of}
 use Rattle.btf_object_model.specs.Layout.{object_layout}
-use Rattle.btf_object_model.specs.Finalized.{placeholder_text, with_int, with_variable, has_functions, with_placeholder, with_placeholder_id, with_ksyms_size, with_old_sizes}
+use Rattle.btf_object_model.specs.Finalized.{placeholder_text, with_int, with_variable, has_functions, with_placeholder, with_ksyms_size, with_old_sizes}
 use Rattle.btf_object_model.specs.SanitizedFinalized.{RewritesFinalized, IsSanitizedFinalized, written_table, takes_placeholder, begun_table, begun_ids}
 use Rattle.btf_object_model.specs.declared.reader.TableReader.{TableReader}
 use Rattle.btf_object_model.specs.Laws.{HasSameContents, KeepsExt}
@@ -224,7 +224,7 @@ final_texts_stay : (has : BtfFeature → Bool) (reader : TableReader) (o : Objec
 final_texts_stay has reader o bytes given base new answers r offset text reads =
     let b : Bool = takes_placeholder reader has in
     let more = begun_strings b base r.ids in
-    let same : base.strings ≡ given.strings = ap (λ (t : Table). t.strings) (opened_others (object_layout o) given base r.opened) in
+    let same : base.strings ≡ given.strings = ap (λ (t : Table). t.strings) (opened_others o given base r.opened) in
     let written : (written_table reader given base r.ids new).strings ≡ new.strings = ap (λ (t : Table). t.strings) (reader_others reader given (with_old_sizes (with_ksyms_size base r.ids) new)) in
     ap (λ (xs : List ℕ). text_at xs offset) written
     ∙ texts_stay FillSized (begun_table b base r.ids) new (begun_ids b base r.ids) (object_layout o) (answers_of has) r.rewritten offset text

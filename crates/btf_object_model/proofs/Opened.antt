@@ -5,9 +5,10 @@ use Rattle.btf_model.specs.Record.{Record}
 use Rattle.btf_model.specs.Refusal.{Refusal}
 use Rattle.btf_model.specs.Table.{Table}
 use Rattle.btf_rewrite_model.specs.Made.{record_at, kind_at}
-use Rattle.btf_rewrite_model.specs.Pass.{Layout}
 use Rattle.btf_rewrite_model.proofs.Kept.{by_table}
 use Rattle.btf_object_model.specs.Kconfig.{Extern, with_record, with_globals, made_global, total, with_externs, LaysOut, ConfiguresIf, ConfiguresAt}
+use Rattle.btf_elf_model.specs.Object.{Object}
+use Rattle.btf_object_model.specs.Hidden.{hidden_type, with_hidden_static}
 use Rattle.btf_object_model.specs.SanitizedFinalized.{IsOpened}
 use Rattle.btf_object_model.specs.Externs.{is_still_extern, with_old_extern, with_old_externs, has_externs, is_still_section, entry_types, with_old_section, with_old_sections, for_reader}
 use Rattle.btf_object_model.specs.declared.reader.TableReader.{TableReader}
@@ -42,16 +43,23 @@ configured_at_others : (t : Table) (found : Result ℕ Refusal) (u : Table) → 
 configured_at_others t (Ok id) u z = configured_by_others ((record_at t id).third == 0) t id u z
 configured_at_others t (Err refusal) u same = same_table t u same
 
-pub opened_others : (layout : Layout) (old u : Table) → IsOpened layout old u → OnlyRecords old u
-opened_others layout old u z = z.2.others ∙ ap (λ (t : Table). record t { records = u.records }) (configured_at_others old z.1.0 z.0 z.1.2)
+after : (t u v : Table) → OnlyRecords t u → OnlyRecords u v → OnlyRecords t v
+after t u v first second = second ∙ ap (λ (w : Table). record w { records = v.records }) first
+
+hidden_others : (t u : Table) (hidden : List ℕ → Option ℕ) → u ≡ with_hidden_static hidden t → OnlyRecords t u
+hidden_others t u hidden is = is ∙ ap (λ (rs : List Record). record t { records = rs }) (ap (λ (v : Table). v.records) (sym is))
+
+pub opened_others : (o : Object) (old u : Table) → IsOpened o old u → OnlyRecords old u
+opened_others o old u z =
+    let configured : Table = z.0 in
+    let final : Table = z.1 in
+    let done : OnlyRecords old final = z.3.others ∙ ap (λ (t : Table). record t { records = final.records }) (configured_at_others old z.2.0 configured z.2.2) in
+    after old final u done (hidden_others final u (hidden_type o) z.4)
 
 -- ---- the externs of the old table
 
 old_extern_others : (old : Table) (id : ℕ) (t : Table) → OnlyRecords t (with_old_extern old id t)
 old_extern_others old id t = by_table (OnlyRecords t) (is_still_extern (kind_at old id) (kind_at t id)) (with_record t id (record_at old id)) t refl refl
-
-after : (t u v : Table) → OnlyRecords t u → OnlyRecords u v → OnlyRecords t v
-after t u v first second = second ∙ ap (λ (w : Table). record w { records = v.records }) first
 
 old_externs_others : (old : Table) (ids : List ℕ) (t : Table) → OnlyRecords t (with_old_externs old ids t)
 old_externs_others old [] t = refl

@@ -73,4 +73,4 @@ IsFinalizedOnce =
 -- A loader opens an object in one way: an object determines the table that it then has.
 abbrev pub IsOpenedOnce : Type 0
 IsOpenedOnce =
-    (layout : Layout) (old new other : Table) → IsOpened layout old new → IsOpened layout old other → new ≡ other
+    (o : Object) (old new other : Table) → IsOpened o old new → IsOpened o old other → new ≡ other

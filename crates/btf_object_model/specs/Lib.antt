@@ -5,9 +5,11 @@ pub mod Sanitized
 pub mod Finalized
 pub mod Kconfig
 pub mod Externs
+pub mod Hidden
 pub mod SanitizedFinalized
 pub mod Laws
 pub mod Examples
 pub mod FinalizedExamples
 pub mod KconfigExamples
 pub mod ExternsExamples
+pub mod HiddenExamples

@@ -8,7 +8,7 @@ use Rattle.btf_model.specs.Blob.{IsTable, IsRefusal, canon}
 use Rattle.btf_elf_model.specs.Object.{Object, IsObject, section_bytes}
 use Rattle.btf_elf_model.specs.Replaced.{ReplacesSection}
 use Rattle.btf_elf_model.specs.declared.section_header.SectionHeader.{SectionHeader}
-use Rattle.btf_rewrite_model.specs.Pass.{Asked, Layout}
+use Rattle.btf_rewrite_model.specs.Pass.{Asked}
 use Rattle.btf_rewrite_model.specs.Rewritten.{pass_of, Rewritten, IsRefused}
 use Rattle.btf_rewrite_model.specs.declared.feature.BtfFeature.{BtfFeature}
 use Rattle.btf_rewrite_model.specs.declared.feature.BtfFeature.TheVariants.{DataSec}
@@ -18,6 +18,7 @@ use Rattle.btf_rewrite_model.specs.declared.ksyms_ids.KsymsIds.{KsymsIds}
 use Rattle.btf_object_model.specs.Finalized.{IsFinalized, placeholder_fault, with_placeholder, with_placeholder_id, with_ksyms_size, with_old_sizes}
 use Rattle.btf_object_model.specs.Kconfig.{IsConfigured}
 use Rattle.btf_object_model.specs.Externs.{for_reader}
+use Rattle.btf_object_model.specs.Hidden.{hidden_type, with_hidden_static}
 use Rattle.btf_object_model.specs.declared.reader.TableReader.{TableReader}
 use Rattle.btf_object_model.specs.declared.reader.TableReader.TheVariants.{Kernel, Loaders}
 use Rattle.btf_rewrite_model.specs.FeatureSet.{answers_of}
@@ -29,10 +30,12 @@ use Rattle.btf_object_model.specs.Sanitized.{Target, HasSection, AreAnswers, tab
 abbrev pub kernel_target : (BtfFeature → Bool) → Target
 kernel_target has = record { has = has; policy = FillSized; placeholder = None }
 
--- The table as a loader has it when it has opened an object of this layout: `.kconfig` is laid out, and then the table
--- is finalized.
-abbrev pub IsOpened : Layout → Table → Table → Type 0
-IsOpened layout old new = (configured : Table) × IsConfigured old configured × IsFinalized layout configured new
+-- The table as a loader has it when it has opened an object: `.kconfig` is laid out, then the table is finalized, and
+-- then hidden functions and variables become Static, which before had to get the offsets of their symbols.
+abbrev pub IsOpened : Object → Table → Table → Type 0
+IsOpened o old new =
+    (configured final : Table) × IsConfigured old configured × IsFinalized (object_layout o) configured final
+    × (new ≡ with_hidden_static (hidden_type o) final)
 
 -- Functions of `.ksyms` get a placeholder in a table for a kernel. In a table for loaders they stay, except for a kernel
 -- without DATASECs, for which no externs can stay.
@@ -66,7 +69,7 @@ pub record RewritesFinalized (o : Object) (bytes : List ℕ) (has : BtfFeature �
     (old base new : Table) (answers : List FeatureAnswer) : Type 0 where
   pub ids : Option KsymsIds
   pub table : IsTable o.header.order bytes old
-  pub opened : IsOpened (object_layout o) old base
+  pub opened : IsOpened o old base
   pub ksyms : FindsKsyms base None (Ok ids)
   pub fits : begun_fault (takes_placeholder reader has) base ids ≡ None
   pub rewritten : Rewritten FillSized (begun_table (takes_placeholder reader has) base ids)
@@ -83,7 +86,7 @@ pub record RewritesFinalized (o : Object) (bytes : List ℕ) (has : BtfFeature �
 abbrev pub RefusesFinalized : Object → List ℕ → (BtfFeature → Bool) → TableReader → Refusal → Type 0
 RefusesFinalized o bytes has reader refusal =
     IsRefusal o.header.order bytes refusal
-    ⊎ ((old base : Table) × IsTable o.header.order bytes old × IsOpened (object_layout o) old base
+    ⊎ ((old base : Table) × IsTable o.header.order bytes old × IsOpened o old base
     × (FindsKsyms base None (Err refusal) ⊎ ((ids : Option KsymsIds) × FindsKsyms base None (Ok ids)
     × ((begun_fault (takes_placeholder reader has) base ids ≡ Some refusal)
     ⊎ ((begun_fault (takes_placeholder reader has) base ids ≡ None)

@@ -6,7 +6,7 @@ use Rattle.std.specs.Result.{IsErrAnd}
 use Rattle.std.proofs.lemmas.List.{drop_all, append-nil, map-append}
 use Rattle.btf_model.specs.Table.{Table}
 use Rattle.btf_relocate_model.specs.Modules as model
-use Rattle.btf_relocate_model.specs.Resolution.{answers, resolution}
+use Rattle.btf_relocate_model.specs.Resolution.{table_answers, resolution}
 use Rattle.btf_relocate_model.specs.Types.{◌>>=◌}
 use Rattle.btf_relocate_model.specs.declared.answer.Answer.{Answer}
 use Rattle.btf_relocate_model.specs.declared.error.RelocationError.{RelocationError}
@@ -47,7 +47,7 @@ module _ (answer : Table → ℕ → Result (Option Answer) RelocationError) (fo
   here first kept i one is left = ap (λ (xs : List InModule). before (map found_view kept) (model.answers_among answer first (map found_view xs))) (sym is) ∙ left
 
   pub refused : (first : Option Answer) (kept : List InModule) (i : ℕ) (one : InModule) → drop i found ≡ one ∷ drop (i + 1) found → Left first kept i → (e : RelocationError)
-      → answers (answer one.target.now) first one.ids.items ≡ Err e → model.answers_among answer None (map found_view found) ≡ Err e
+      → table_answers (answer one.target.now) first one.ids.items ≡ Err e → model.answers_among answer None (map found_view found) ≡ Err e
   refused first kept i one at left e is = sym (here first kept i one at left) ∙ rw is refl
 
   pub all_answered : (first : Option Answer) (kept : List InModule) (i : ℕ) → length found ≤ i → Left first kept i → model.answers_among answer None (map found_view found) ≡ Ok (first, map found_view kept)
@@ -56,7 +56,7 @@ module _ (answer : Table → ℕ → Result (Option Answer) RelocationError) (fo
       ∙ ap (λ (xs : List model.InModule). let p : Option Answer × List model.InModule = (first, xs) in Ok p) (append-nil (map found_view kept))
 
   pub goes_on : (first : Option Answer) (kept : List InModule) (i : ℕ) (one : InModule) → drop i found ≡ one ∷ drop (i + 1) found → Left first kept i
-      → (answered : Option Answer) (v : Vec ℕ) → answers (answer one.target.now) first one.ids.items ≡ Ok (answered, v.items)
+      → (answered : Option Answer) (v : Vec ℕ) → table_answers (answer one.target.now) first one.ids.items ≡ Ok (answered, v.items)
       → (more : List InModule) → more ≡ kept ++ record { target = one.target; ids = v } ∷ [] → Left answered more (i + 1)
   goes_on first kept i one at left answered v is more pushed =
       let matched : InModule = record { target = one.target; ids = v } in

@@ -15,7 +15,7 @@ use Rattle.btf_relocate.proofs.Pointers.{element_at}
 use Rattle.std.proofs.lemmas.List.Sorted.{All-permutation, length_permutation, searchable_from_sorted}
 use Rattle.std.proofs.lemmas.Map.Text.{is_eq-slice_cmp}
 use Rattle.btf_relocate_model.specs.Name.{essential, separates, has_flavor}
-use Rattle.btf_relocate_model.specs.Candidates.{is_nameless, compared_number, is_candidate, ids_from, candidates}
+use Rattle.btf_relocate_model.specs.Candidates.{is_nameless, compared_number, is_candidate, ids_from, candidates, first_candidates}
 use Rattle.btf_relocate_model.specs.Types.{name_or_none, known_record, required_record}
 use Rattle.btf_model.proofs.Comparisons.{same_ok}
 use Rattle.btf_relocate_model.specs.Section.{candidates_by, candidates_of}
@@ -361,7 +361,7 @@ of_known : (local t : Table) (id : ℕ) (o : Option Record) (r : Record) → kno
 of_known local t id (Some x) r is = ap (λ (y : Record). candidates_by local t (Some y)) (sym (same_ok x r is))
 of_known local t id None r is = absurd (cc)
 
-pub candidates_of_record : (local t : Table) (id : ℕ) (r : Record) → required_record local id ≡ Ok r → candidates t (name_or_none local r.name) (kind_number r.info) ≡ candidates_of local t id
+pub candidates_of_record : (local t : Table) (id : ℕ) (r : Record) → required_record local id ≡ Ok r → first_candidates t (name_or_none local r.name) (kind_number r.info) ≡ candidates_of local t id
 candidates_of_record local t id r is = of_known local t id (slice_get local.records id) r is
 
 pub items_are : {A E : Type 0} {xs ys : List ℕ} (r : Result (Vec ℕ A) E) → IfOk r (λ v. v.items ≡ xs) → xs ≡ ys → IfOk r (λ v. v.items ≡ ys)

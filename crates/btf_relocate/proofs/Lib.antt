@@ -20,3 +20,4 @@ mod Definitions
 mod Measures
 mod Among
 mod SectionsAmong
+mod Scans

@@ -7,7 +7,7 @@ use Rattle.btf_relocate.proofs.Compatibles.{from_err}
 use Rattle.std.specs.Option.{is_some}
 use Rattle.btf_relocate_model.specs.Candidates.{is_nameless}
 use Rattle.btf_relocate_model.specs.Path.{local_pointer}
-use Rattle.btf_relocate_model.specs.Resolution.{TablePair, Question, is_local, question, resolution, answers, candidate_answer, resolved_by, validates, remaining, searched, type_word, value_of, local_match}
+use Rattle.btf_relocate_model.specs.Resolution.{TablePair, Question, is_local, question, resolution, table_answers, candidate_answer, resolved_by, validates, remaining, searched, type_word, value_of, local_match}
 use Rattle.btf_relocate_model.specs.Types.{◌>>=◌}
 use Rattle.btf_relocate_model.specs.declared.answer.Answer.{Answer}
 use Rattle.btf_relocate_model.specs.declared.error.RelocationError.{RelocationError}
@@ -46,10 +46,10 @@ module _ (g : TablePair) (candidates words : List ℕ) (q : Question) (expected 
   parts : Asked → (is_nameless q.name ≡ false) × (value_of local_pointer g.local q.kind (local_match q.subject) ≡ Ok expected)
   parts a = named (type_word words) (is_nameless q.name) (value_of local_pointer g.local q.kind (local_match q.subject)) expected a.expects
 
-  pub refused : Asked → (e : RelocationError) → answers (candidate_answer g q.kind q.subject) None candidates ≡ Err e → resolution g candidates words ≡ Err e
+  pub refused : Asked → (e : RelocationError) → table_answers (candidate_answer g q.kind q.subject) None candidates ≡ Err e → resolution g candidates words ≡ Err e
   refused a e is = rw (a.asks, a.searches, (parts a).0, (parts a).1, is) refl
 
-  pub answered_by : Asked → (found : Option Answer × List ℕ) → answers (candidate_answer g q.kind q.subject) None candidates ≡ Ok found
+  pub answered_by : Asked → (found : Option Answer × List ℕ) → table_answers (candidate_answer g q.kind q.subject) None candidates ≡ Ok found
       → resolution g candidates words ≡ Ok (resolved_by g.local g.target q.kind (validates q.kind q.subject) expected found.0, remaining candidates found.0 found.1)
   answered_by a found is = rw (a.asks, a.searches, (parts a).0, (parts a).1, is) refl
 

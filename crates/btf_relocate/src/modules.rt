@@ -11,7 +11,7 @@ ghost use Rattle.btf_relocate.specs.Modules.{ResolvesAmong, ResolvesInModules, a
 ghost use Rattle.btf_relocate.specs.Resolving.{subject_view};
 
 use crate::resolving::{
-    Question, answers, expected_of, local_id, question_of, resolve, resolve_by, validates,
+    Question, expected_of, local_id, question_of, resolve, resolve_by, table_answers, validates,
 };
 use crate::section::candidates_of;
 use crate::target::Target;
@@ -190,7 +190,7 @@ fn answers_among<'a, 't>(
     let mut common = None;
     let mut matching = Vec::with_capacity(alloc, found.len())?;
     for one in found {
-        let (answer, ids) = answers(
+        let (answer, ids) = table_answers(
             alloc,
             local,
             one.target,

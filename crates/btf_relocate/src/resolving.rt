@@ -13,7 +13,7 @@ use crate::lookup::{name_at, type_at};
 use crate::matching::matching_field;
 use crate::path::{LOCAL_POINTER_SIZE, Path};
 use crate::size::size_of;
-use crate::target::Target;
+use crate::target::{CANDIDATE_LIMIT, Target};
 use crate::types::types_alike;
 use crate::value::{field_value, plain};
 use btf_model::Endianness;
@@ -48,7 +48,7 @@ pub struct Question<'t> {
 /// the string offset of the access string, and the number of the kind.
 ///
 /// `candidates` are the types of the target that the record's type may be, as [`Target::candidates`] gives them. If at
-/// least one of them matches, the others are removed. All that match must have the same value.
+/// least one of them matches, the others are removed. All that match must have the same value. More than 256 are refused.
 pub fn resolve(
     alloc: Global,
     local: &Btf,
@@ -66,7 +66,7 @@ pub fn resolve(
     }
     let expected = expected_of(local, type_id, &question)?;
     let first = None;
-    let (answer, matching) = answers(
+    let (answer, matching) = table_answers(
         alloc,
         local,
         target,
@@ -231,8 +231,26 @@ fn value_of(
     }
 }
 
-/// The answer of all candidates that match, where an earlier answer is the first, and these candidates.
-pub fn answers(
+/// The answer of all candidates of a table that match, where an earlier answer is the first, and these candidates.
+pub fn table_answers(
+    alloc: Global,
+    local: &Btf,
+    target: &Target<'_>,
+    question: &Question<'_>,
+    first: Option<Answer>,
+    candidates: &[u32],
+) -> Result<(Option<Answer>, Vec<u32>), RelocationError>
+    ensures { GivesBy answer_ids_view (model.table_answers
+        (answer_for local.now target.now question.now) first candidates.now) result }
+{
+    if candidates.len() > CANDIDATE_LIMIT {
+        return Err(RelocationError::TooManyCandidates);
+    }
+    answers(alloc, local, target, question, first, candidates)
+}
+
+/// The same for candidates that are not too many.
+fn answers(
     alloc: Global,
     local: &Btf,
     target: &Target<'_>,

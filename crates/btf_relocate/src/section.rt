@@ -280,7 +280,8 @@ fn access_size(slot: &Slot) -> u8
 }
 
 /// The candidates of a type of the program's table, in a list for [`resolve`](crate::resolve); none if the id has no
-/// type. `OutOfMemory` is the only error.
+/// type. Of more than 256, the list has the first 257, which are enough to refuse the record. `OutOfMemory` is the only
+/// error.
 pub fn candidates_of(
     alloc: Global,
     local: &Btf,
@@ -292,7 +293,7 @@ pub fn candidates_of(
     match type_at(local, type_id) {
         Ok(btf_type) => {
             let name = name_or_none(local, btf_type.name_offset());
-            Vec::from_slice(alloc, target.candidates(name, btf_type.kind()))
+            target.candidates(alloc, name, btf_type.kind())
         }
         Err(_) => Ok(Vec::new(alloc)),
     }

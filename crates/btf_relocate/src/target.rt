@@ -1,14 +1,15 @@
 //! The table that a program is relocated against.
 
-ghost use Rattle.std.specs.Prelude.{◌≡◌, ℕ, Some, IfOk, IfErr};
+ghost use Rattle.std.specs.Prelude.{◌≡◌, ◌+◌, ℕ, Some, IfOk, IfErr, slice_get, take};
+ghost use Rattle.std.specs.Option.{option_map};
 ghost use Rattle.std.specs.List.{list_any};
 ghost use Rattle.std.specs.Str.{bytes_eq};
-ghost use Rattle.btf_model.specs.Record.{kind_number, kind_of};
+ghost use Rattle.btf_model.specs.Record.{Record, kind_number, kind_of};
 ghost use Rattle.btf_plain.specs.Kind as kinds;
 ghost use Rattle.btf_plain.specs.declared.error.BtfError.TheVariants.{OutOfMemory};
-ghost use Rattle.btf_relocate_model.specs.Candidates.{compared_number, candidates};
+ghost use Rattle.btf_relocate_model.specs.Candidates.{candidate_limit, compared_number, candidates, first_candidates};
 ghost use Rattle.btf_relocate.specs.Index.{IsIndex, kind_code, key_of, key_cmp, ids_with_name};
-ghost use Rattle.btf_relocate.specs.TargetIndex.{IndexesTable, index_in};
+ghost use Rattle.btf_relocate.specs.TargetIndex.{IndexesTable, has_key, index_in};
 ghost use Rattle.btf_relocate.specs.Entries.{AreEntries};
 ghost use Rattle.btf_relocate_model.specs.Types as model;
 
@@ -20,6 +21,9 @@ use btf_table::{Btf, type_count};
 use std::alloc::{AllocError, Global};
 use std::cmp::Ordering;
 use std::marker::Model;
+
+/// The maximum number of candidates of a record in one table.
+pub const CANDIDATE_LIMIT: usize = 256;
 
 /// The names that compilers give to the C type `long`.
 const LONG_NAMES: [&str; 11] = [
@@ -71,8 +75,9 @@ impl TargetIndex {
         })
     }
 
-    /// The ids of the types of the indexed table that [`Target::candidates`] gives.
-    fn candidates(&self, table: &Btf, name: &[u8], kind: BtfKind) -> &[u32]
+    /// The ids of the types of the indexed table that have this kind and a name with the same essential name, in rising
+    /// order. An ENUM64 counts as an ENUM.
+    pub fn candidates(&self, table: &Btf, name: &[u8], kind: BtfKind) -> &[u32]
         requires { IndexesTable table.now self.now }
         ensures { result.now ≡ candidates table.now name.now (kind_code kind) }
     {
@@ -92,21 +97,24 @@ enum IndexRef<'t> {
     Owned(TargetIndex),
     /// The index is stored elsewhere.
     Borrowed(&'t TargetIndex),
+    /// There is none, but the size of a pointer.
+    Missing(u32),
 }
 
 impl<'t> IndexRef<'t> {
-    /// The index.
-    fn get(&self) -> &TargetIndex
-        ensures { result.now ≡ index_in self.now }
+    /// The index, if there is one.
+    fn get(&self) -> Option<&TargetIndex>
+        ensures { option_map (λ index. index.now) result ≡ index_in self.now }
     {
         match self {
-            IndexRef::Owned(index) => index,
-            IndexRef::Borrowed(index) => index,
+            IndexRef::Owned(index) => Some(index),
+            IndexRef::Borrowed(index) => Some(index),
+            IndexRef::Missing(_) => None,
         }
     }
 }
 
-/// The table that a program is relocated against, with an index of its types by their essential names and kinds.
+/// The table that a program is relocated against. It may have an index of its types by their essential names and kinds.
 #[derive(Debug, Drop)]
 pub struct Target<'t> {
     table: &'t Btf,
@@ -115,13 +123,13 @@ pub struct Target<'t> {
 
 impl<'t> Model for Target<'t> {
     ghost use Rattle.btf_model.specs.Table.{Table};
-    ghost use Rattle.btf_relocate.specs.TargetIndex.{IndexesTable, index_in};
+    ghost use Rattle.btf_relocate.specs.TargetIndex.{IsIndexOf};
 
     ghost Value = { Table };
 
     ghost view = { λ g. g.table.now };
 
-    ghost invariant = { λ g. IndexesTable g.table.now (index_in g.index) };
+    ghost invariant = { λ g. IsIndexOf g.table.now g.index };
 }
 
 impl<'t> Target<'t> {
@@ -148,6 +156,16 @@ impl<'t> Target<'t> {
         }
     }
 
+    /// The table without an index: each search for candidates goes over all types. This is faster for a few searches.
+    pub fn without_index(table: &'t Btf) -> Target<'t>
+        ensures { result ≡ table.now }
+    {
+        Target {
+            table,
+            index: IndexRef::Missing(pointer_size(table)),
+        }
+    }
+
     /// The table.
     pub fn table(&self) -> &'t Btf
         ensures { result.now ≡ self.now }
@@ -160,16 +178,77 @@ impl<'t> Target<'t> {
     pub fn pointer_size(&self) -> u32
         ensures { result ≡ model.pointer_size self.now }
     {
-        self.index.get().pointer_size
+        match &self.index {
+            IndexRef::Owned(index) => index.pointer_size,
+            IndexRef::Borrowed(index) => index.pointer_size,
+            IndexRef::Missing(pointer_size) => *pointer_size,
+        }
     }
 
     /// The ids of the types of this kind whose names have the same essential name, in rising order. An ENUM64 counts as
-    /// an ENUM.
-    pub fn candidates(&self, name: &[u8], kind: BtfKind) -> &[u32]
-        ensures { result.now ≡ candidates self.now name.now (kind_code kind) }
+    /// an ENUM. Of more than 256, the first 257, which are enough to refuse a record.
+    pub fn candidates(
+        &self,
+        alloc: Global,
+        name: &[u8],
+        kind: BtfKind,
+    ) -> Result<Vec<u32>, AllocError>
+        ensures { IfOk result (λ v. v.items ≡ first_candidates self.now name.now (kind_code kind)) }
     {
-        self.index.get().candidates(self.table, name, kind)
+        match self.index.get() {
+            Some(index) => {
+                let ids = index.candidates(self.table, name, kind);
+                Vec::from_slice(alloc, first_ids(ids))
+            }
+            None => search(alloc, self.table, name, kind),
+        }
     }
+}
+
+/// As many of these ids as are enough to refuse a record with too many.
+fn first_ids(ids: &[u32]) -> &[u32]
+    ensures { result.now ≡ take (candidate_limit + 1) ids.now }
+{
+    if ids.len() > CANDIDATE_LIMIT {
+        return &ids[..CANDIDATE_LIMIT + 1];
+    }
+    ids
+}
+
+/// The candidates of a table without an index.
+fn search(alloc: Global, table: &Btf, name: &[u8], kind: BtfKind) -> Result<Vec<u32>, AllocError>
+    ensures { IfOk result (λ v. v.items ≡ first_candidates table.now name.now (kind_code kind)) }
+{
+    let essential = essential_name(name);
+    let number = comparison_number(kind);
+    let mut ids = Vec::new(alloc);
+    for type_id in 1..type_count(table) {
+        if has_key(table, type_id, essential, number) {
+            ids.push(type_id)?;
+            if ids.len() > CANDIDATE_LIMIT {
+                return Ok(ids);
+            }
+        }
+    }
+    Ok(ids)
+}
+
+/// Whether a type has this kind and a name with this essential name.
+fn has_key(table: &Btf, type_id: u32, name: &[u8], kind: u32) -> bool
+    ensures { (r : Record) → slice_get table.now.records type_id ≡ Some r
+        → result ≡ has_key table.now name.now kind r }
+{
+    let Ok(btf_type) = table.type_by_id(type_id) else {
+        return false;
+    };
+    if comparison_number(btf_type.kind()) != kind {
+        return false;
+    }
+    let own_name = name_or_none(table, btf_type.name_offset());
+    if own_name.is_empty() {
+        return false;
+    }
+    essential_name(own_name) == name
 }
 
 /// The order of the key of a type and another key.

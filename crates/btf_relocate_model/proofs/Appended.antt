@@ -1,6 +1,6 @@
 -- What changes when strings are appended to the program's table.
 use Rattle.std.proofs.Common.{◌≡◌, ℕ, zero, suc, ◌-◌, ◌<◌, List, [], ◌∷◌, ◌++◌, length, take, drop, Bool, true, false, Option, Some, None, Result, Ok, Err, refl, sym, ap, subst, ◌∙◌, arith, inl, inr}
-use Rattle.std.specs.Prelude.{◌==◌, ◌&&◌, not, if◌then◌else◌, position, slice_get}
+use Rattle.std.specs.Prelude.{◌==◌, ◌&&◌, nat_lt, not, if◌then◌else◌, position, slice_get}
 use Rattle.std.proofs.lemmas.List.{drop-append-le, take-append-le, get_or_append_left, length-append, length-drop}
 use Rattle.std.proofs.lemmas.List.Quantifiers.{position-Some}
 use Rattle.btf_model.proofs.Texts.{some_mapped, bytes_are}
@@ -12,7 +12,7 @@ use Rattle.btf_model.specs.declared.endianness.Endianness.{Endianness}
 use Rattle.btf_relocate_model.proofs.AppendedComparison.{types_alike_same}
 use Rattle.btf_relocate_model.proofs.OwnPaths.{ok_of, same_ok}
 use Rattle.btf_relocate_model.specs.Access.{access_of}
-use Rattle.btf_relocate_model.specs.Candidates.{compared_number, is_nameless}
+use Rattle.btf_relocate_model.specs.Candidates.{candidate_limit, compared_number, is_nameless}
 use Rattle.btf_relocate_model.specs.Comparison.{types_alike}
 use Rattle.btf_relocate_model.specs.Compatible.{named_alike, alike_by, is_composite_kind, alike, compatible_by, compatible_within, compatible}
 use Rattle.btf_relocate_model.specs.Enumerator.{enumerators, named_enumerator, enumerator_at}
@@ -20,14 +20,14 @@ use Rattle.btf_relocate_model.specs.Field.{root, member}
 use Rattle.btf_relocate_model.specs.Laws.{SameOrUnread, with_strings, MatchesAlike, StringsMayBeAppended}
 use Rattle.btf_relocate_model.specs.Match.{in_place, if_compatible, member_after, match_step, match_from, match_path, path_limit}
 use Rattle.btf_relocate_model.specs.Path.{Place, PathStep, AtIndex, ToMember, local_pointer, nameless_place, named_place, member_place, place_by, place_at, after_step, path_from, path_of}
-use Rattle.btf_relocate_model.specs.Resolution.{TablePair, Question, Topic, Fields, Types, Enumerators, Subject, OfField, OfType, OfEnumerator, indices_or_bad, enumerator_subject, topic_of, question, answered, searched, answers, answer_of, candidate_answer, joined_answer, seen_as, same_order, subject_by, subject_of, is_local, local_match, rule_of, match_of, type_if, value_of, resolved_by, remaining, validates, relocation_kind_at, kind_word, type_word, access_word}
+use Rattle.btf_relocate_model.specs.Resolution.{TablePair, Question, Topic, Fields, Types, Enumerators, Subject, OfField, OfType, OfEnumerator, indices_or_bad, enumerator_subject, topic_of, question, answered, searched, answers, table_answers, answer_of, candidate_answer, joined_answer, seen_as, same_order, subject_by, subject_of, is_local, local_match, rule_of, match_of, type_if, value_of, resolved_by, remaining, validates, relocation_kind_at, kind_word, type_word, access_word}
 use Rattle.btf_relocate_model.specs.Search.{Found, search}
 use Rattle.btf_relocate_model.specs.Types.{◌>>=◌, required_record, name_at, readable, resolved_record, pointer_size}
 use Rattle.btf_relocate_model.specs.declared.answer.Answer.{Answer}
 use Rattle.btf_relocate_model.specs.declared.answer.Match.{Match}
 use Rattle.btf_relocate_model.specs.declared.answer.Match.TheVariants.{AtField, AtType, AtEnumerator}
 use Rattle.btf_relocate_model.specs.declared.error.RelocationError.{RelocationError}
-use Rattle.btf_relocate_model.specs.declared.error.RelocationError.TheVariants.{OrderMismatch, AnonymousType}
+use Rattle.btf_relocate_model.specs.declared.error.RelocationError.TheVariants.{OrderMismatch, AnonymousType, TooManyCandidates}
 use Rattle.btf_relocate_model.specs.declared.field.Field.{Field}
 use Rattle.btf_relocate_model.specs.declared.field.Value.{Value}
 use Rattle.btf_relocate_model.specs.declared.kind.RelocationKind.{RelocationKind}
@@ -234,10 +234,11 @@ appended more g = record g { local = with_strings more g.local }
 
 searched_same : (more : List ℕ) (g : TablePair) (k : RelocationKind) → (k ≡ TypeMatches → MatchesAlike more g) → (s : Subject) (cs : List ℕ) (expected : Value) → SameOrUnread g.local.strings (searched g k s cs expected) (searched (appended more g) k s cs expected)
 searched_same more g k matches s cs expected =
-    bind g.local.strings (answers (candidate_answer g k s) None cs) (answers (candidate_answer (appended more g) k s) None cs) _ _
+    bind g.local.strings (table_answers (candidate_answer g k s) None cs) (table_answers (candidate_answer (appended more g) k s) None cs) _ _
+    (by_test g.local.strings (nat_lt candidate_limit (length cs)) (Err TooManyCandidates) (Err TooManyCandidates) _ _ (inl refl)
     (all_same g.local.strings (candidate_answer g k s) (candidate_answer (appended more g) k s) (λ c.
     bind g.local.strings (match_of k g.local (pointer_size g.target) g.target s c) (match_of k (with_strings more g.local) (pointer_size g.target) g.target s c) (answer_of (pointer_size g.target) g.target k) (answer_of (pointer_size g.target) g.target k)
-    (match_same more g k matches (pointer_size g.target) s c) (λ m. inl refl)) cs None)
+    (match_same more g k matches (pointer_size g.target) s c) (λ m. inl refl)) cs None))
     (λ found. inl (ap (λ (r : Resolved). Ok (r, remaining cs found.0 found.1)) (resolved_same more g.local g.target k (validates k s) expected found.0)))
 
 answered_same : (more : List ℕ) (g : TablePair) (id : ℕ) (cs : List ℕ) (q : Question) → (q.kind ≡ TypeMatches → MatchesAlike more g) → SameOrUnread g.local.strings (answered g id cs q) (answered (appended more g) id cs q)

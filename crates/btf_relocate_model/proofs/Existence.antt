@@ -1,22 +1,22 @@
 -- What a record about a field gives, beside the record about the existence of the field.
 use Rattle.std.proofs.Common.{◌≡◌, ℕ, suc, List, [], ◌∷◌, Bool, true, false, Option, Some, None, Result, Ok, Err, refl, sym, ap, subst, arith, inl, inr}
-use Rattle.std.specs.Prelude.{◌⊎◌, not, if◌then◌else◌, slice_get}
+use Rattle.std.specs.Prelude.{◌⊎◌, nat_lt, not, if◌then◌else◌, length, slice_get}
 use Rattle.std.proofs.lemmas.Bool.Decides.{nat_tests}
 use Rattle.btf_model.specs.Table.{Table}
 use Rattle.btf_model.specs.declared.endianness.Endianness.{Endianness}
 use Rattle.btf_relocate_model.specs.Access.{access_of}
-use Rattle.btf_relocate_model.specs.Candidates.{is_nameless}
+use Rattle.btf_relocate_model.specs.Candidates.{candidate_limit, is_nameless}
 use Rattle.btf_relocate_model.specs.Kind.{relocation_kinds}
 use Rattle.btf_relocate_model.specs.Laws.{IsOfValue, IsOfItsValue, AgreesWith, ExistenceAgrees}
 use Rattle.btf_relocate_model.specs.Match.{match_path}
 use Rattle.btf_relocate_model.specs.Path.{Path, path_of, local_pointer}
-use Rattle.btf_relocate_model.specs.Resolution.{TablePair, Question, Subject, indices_or_bad, Topic, Fields, OfField, topic_of, poisons, resolution, question, answered, searched, answers, answer_of, candidate_answer, joined_answer, retained, agree, seen_as, same_order, subject_by, is_local, resolved_by, remaining, validates}
+use Rattle.btf_relocate_model.specs.Resolution.{TablePair, Question, Subject, indices_or_bad, Topic, Fields, OfField, topic_of, poisons, resolution, question, answered, searched, answers, table_answers, answer_of, candidate_answer, joined_answer, retained, agree, seen_as, same_order, subject_by, is_local, resolved_by, remaining, validates}
 use Rattle.btf_relocate_model.specs.Types.{◌>>=◌, required_record, name_at, pointer_size}
 use Rattle.btf_relocate_model.specs.Value.{field_value, plain, truth_number}
 use Rattle.btf_relocate_model.specs.declared.answer.Answer.{Answer}
 use Rattle.btf_relocate_model.specs.declared.answer.Match.TheVariants.{AtField}
 use Rattle.btf_relocate_model.specs.declared.error.RelocationError.{RelocationError}
-use Rattle.btf_relocate_model.specs.declared.error.RelocationError.TheVariants.{Ambiguous, OrderMismatch, AnonymousType}
+use Rattle.btf_relocate_model.specs.declared.error.RelocationError.TheVariants.{Ambiguous, OrderMismatch, AnonymousType, TooManyCandidates}
 use Rattle.btf_relocate_model.specs.declared.field.Field.{Field}
 use Rattle.btf_relocate_model.specs.declared.field.Value.{Value}
 use Rattle.btf_relocate_model.specs.declared.kind.RelocationKind.{RelocationKind}
@@ -166,13 +166,14 @@ searches : (g : TablePair) (id : ℕ) (cs : List ℕ) (k : RelocationKind) (path
     → Follows (IsOfValue g k cs path) Agree (searched g FieldExists (OfField path) cs expected) (searched g k (OfField path) cs other)
 unfolding Same SameFound
 searches g id cs k path expected other poison =
-    bind (IsOfValue g k cs path) SameFound Agree (answers (candidate_answer g FieldExists (OfField path)) None cs) (answers (candidate_answer g k (OfField path)) None cs)
+    bind (IsOfValue g k cs path) SameFound Agree (table_answers (candidate_answer g FieldExists (OfField path)) None cs) (table_answers (candidate_answer g k (OfField path)) None cs)
     (λ found. Ok (resolved_by g.local g.target FieldExists (validates FieldExists (OfField path)) expected found.0, remaining cs found.0 found.1))
     (λ found. Ok (resolved_by g.local g.target k (validates k (OfField path)) other found.0, remaining cs found.0 found.1))
+    (by_test (IsOfValue g k cs path) SameFound (nat_lt candidate_limit (length cs)) TooManyCandidates (answers (candidate_answer g FieldExists (OfField path)) None cs) (answers (candidate_answer g k (OfField path)) None cs)
     (all_answers (IsOfValue g k cs path) (inl refl) (candidate_answer g FieldExists (OfField path)) (candidate_answer g k (OfField path))
     cs
     (λ i c at. one_candidate (IsOfValue g k cs path) (pointer_size g.target) g.target k (match_path g.local (pointer_size g.target) g.target path.steps c) (λ f e matched is. inr (inr (i, c, f, at, matched, is))))
-    None None tt)
+    None None tt))
     (λ x y xy. results g k (validates FieldExists (OfField path)) (validates k (OfField path)) expected other cs x.0 y.0 x.1 y.1 poison xy.0 xy.1)
 
 answers_agree : (g : TablePair) (id : ℕ) (cs : List ℕ) (k : RelocationKind) (name : List ℕ) (path : Path) → poisons k ≡ true

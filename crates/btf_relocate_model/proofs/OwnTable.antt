@@ -18,7 +18,7 @@ use Rattle.btf_relocate_model.specs.Candidates.{is_nameless}
 use Rattle.btf_relocate_model.specs.Instruction.{slot_at, slot_len, ld_imm64, slot_bytes, instruction_bytes, instruction_at, relocated, relocated_from, patched, patched_slot, patched_offset, patched_immediate, is_unexpected, sign_extended, wide_immediate, is_ld_imm64, narrow, fits_immediate, is_register_source, overwritten, written_back}
 use Rattle.btf_relocate_model.specs.Laws.{IsOwn, IsExpected, AreBytes, OwnTableGivesTheExpected, ExpectedKeepsTheCode, OwnTableKeepsTheCode}
 use Rattle.btf_relocate_model.specs.Path.{local_pointer}
-use Rattle.btf_relocate_model.specs.Resolution.{TablePair, Question, Subject, is_local, local_match, local_id, match_of, value_of, bit_of, answer_of, answers, candidate_answer, searched, answered, resolution, resolved_by, remaining, validates, instruction_word, type_word}
+use Rattle.btf_relocate_model.specs.Resolution.{TablePair, Question, Subject, is_local, local_match, local_id, match_of, value_of, bit_of, answer_of, answers, table_answers, candidate_answer, searched, answered, resolution, resolved_by, remaining, validates, instruction_word, type_word}
 use Rattle.btf_relocate_model.specs.Section.{patch_of}
 use Rattle.btf_relocate_model.specs.Types.{◌>>=◌, pointer_size}
 use Rattle.btf_relocate_model.specs.declared.answer.Answer.{Answer}
@@ -64,11 +64,11 @@ own_matched : (g : TablePair) (q : Question) (id : ℕ) (v : Value) (x : Result 
 own_matched g q id v (Ok m) own finds found is =
     let a : Answer = record { bit = bit_of (local_match q.subject); value = v } in
     let here : matched g q id ≡ Ok (Some (local_match q.subject)) = found ∙ ap {B = Result (Option Match) RelocationError} (λ (o : Option Match). Ok o) (finds m refl) in
-    let e : answers (candidate_answer g q.kind q.subject) None (id ∷ []) ≡ Ok (Some a, id ∷ []) = one_answer (candidate_answer g q.kind q.subject) id a (own_answer g q.kind id q.subject v own here is) in
+    let e : table_answers (candidate_answer g q.kind q.subject) None (id ∷ []) ≡ Ok (Some a, id ∷ []) = one_answer (candidate_answer g q.kind q.subject) id a (own_answer g q.kind id q.subject v own here is) in
     subst (λ (found : Result (Option Answer × List ℕ) RelocationError). IsExpected g q id (found >>= λ f. Ok (resolved_by g.local g.target q.kind (validates q.kind q.subject) v f.0, remaining (id ∷ []) f.0 f.1))) (sym e)
     (record { value = refl; is_not_poisoned = refl; size = refl; validates = refl; remaining = refl })
 own_matched g q id v (Err e) own finds found is =
-    let none : answers (candidate_answer g q.kind q.subject) None (id ∷ []) ≡ Err e = one_error (candidate_answer g q.kind q.subject) id e (ap (λ (m : Result (Option Match) RelocationError). m >>= answer_of (pointer_size g.target) g.target q.kind) found) in
+    let none : table_answers (candidate_answer g q.kind q.subject) None (id ∷ []) ≡ Err e = one_error (candidate_answer g q.kind q.subject) id e (ap (λ (m : Result (Option Match) RelocationError). m >>= answer_of (pointer_size g.target) g.target q.kind) found) in
     subst (λ (found : Result (Option Answer × List ℕ) RelocationError). IsExpected g q id (found >>= λ f. Ok (resolved_by g.local g.target q.kind (validates q.kind q.subject) v f.0, remaining (id ∷ []) f.0 f.1))) (sym none)
     (inr (inr found))
 

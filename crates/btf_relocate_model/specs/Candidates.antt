@@ -1,6 +1,6 @@
 -- The types of the target that a record's type may be.
 -- Source: libbpf's `bpf_core_find_cands` and `bpf_core_add_cands`.
-use Rattle.std.specs.Prelude.{ℕ, suc, ◌==◌, ◌&&◌, not, if◌then◌else◌, Bool, List, [], ◌∷◌, drop, length}
+use Rattle.std.specs.Prelude.{ℕ, suc, ◌+◌, ◌==◌, ◌&&◌, not, if◌then◌else◌, Bool, List, [], ◌∷◌, drop, length, take}
 use Rattle.std.specs.Str.{bytes_eq}
 use Rattle.btf_model.specs.Record.{Record, kind_number}
 use Rattle.btf_model.specs.Table.{Table}
@@ -28,6 +28,15 @@ abbrev pub ids_from : (Record → Bool) → ℕ → List Record → List ℕ
 ids_from passes id [] = []
 ids_from passes id (r ∷ rs) = if passes r then id ∷ ids_from passes (suc id) rs else ids_from passes (suc id) rs
 
+-- The maximum number of candidates of a record in one table: a limit of this project on what a record costs. In the
+-- table of Linux 6.18 at most 4 types of a kind share a name.
+abbrev pub candidate_limit : ℕ
+candidate_limit = 256
+
 -- The candidates for a name and the number of a kind, in rising order of their ids, which begin at 1.
 abbrev pub candidates : Table → List ℕ → ℕ → List ℕ
 candidates t name kind = ids_from (is_candidate t name kind) 1 (drop 1 t.records)
+
+-- As many of the candidates as are enough to refuse a record that has more than the limit.
+abbrev pub first_candidates : Table → List ℕ → ℕ → List ℕ
+first_candidates t name kind = take (candidate_limit + 1) (candidates t name kind)

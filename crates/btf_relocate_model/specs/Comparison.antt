@@ -3,7 +3,7 @@
 -- Source: libbpf's `__bpf_core_types_are_compat` and `__bpf_core_types_match`. The limit of 32 pointees, elements and
 -- return types is libbpf's. libbpf also limits parameters and members to 32 levels; here a pair of types that is met
 -- inside its own comparison is refused in place of that.
-use Rattle.std.specs.Prelude.{ℕ, zero, suc, ◌*◌, ◌==◌, ◌&&◌, nat_lt, if◌then◌else◌, Bool, true, false, List, [], ◌∷◌, length, slice_index, Option, Some, None, Result, Ok, Err}
+use Rattle.std.specs.Prelude.{ℕ, zero, suc, ◌*◌, ◌^◌, ◌==◌, ◌&&◌, nat_lt, if◌then◌else◌, Bool, true, false, List, [], ◌∷◌, length, slice_index, Option, Some, None, Result, Ok, Err}
 use Rattle.std.specs.Bool.{beq}
 use Rattle.std.specs.List.{list_any}
 use Rattle.std.specs.Str.{bytes_eq}
@@ -21,7 +21,7 @@ use Rattle.btf_relocate_model.specs.declared.comparison.Pair.{Pair}
 use Rattle.btf_relocate_model.specs.declared.comparison.Rule.{Rule}
 use Rattle.btf_relocate_model.specs.declared.comparison.Rule.TheVariants.{Compatible, Matches}
 use Rattle.btf_relocate_model.specs.declared.error.RelocationError.{RelocationError}
-use Rattle.btf_relocate_model.specs.declared.error.RelocationError.TheVariants.{MaximumTypeDepthReached}
+use Rattle.btf_relocate_model.specs.declared.error.RelocationError.TheVariants.{MaximumTypeDepthReached, TooManyMembers}
 
 -- ---- what a rule finds at two types
 
@@ -150,20 +150,30 @@ matches_by is_pointee (Some Ptr) (Some Ptr) r s = GoesOn (pair true r.third s.th
 matches_by is_pointee (Some Array) (Some Array) r s =
     if slice_index r.tail 2 == slice_index s.tail 2
     then GoesOn (pair is_pointee (element_type r) (element_type s)) else Ends false
+matches_by is_pointee (Some FuncProto) (Some FuncProto) r s = prototype_step is_pointee r s
 matches_by is_pointee k q r s = declared_by is_pointee k q r s
+
+-- The maximum number of pairs of members of two STRUCTs or UNIONs: a limit of this project on what a comparison costs.
+abbrev pub member_pair_limit : ℕ
+member_pair_limit = 2 ^ 20
+
+-- members that are too many to compare are refused
+abbrev pub few_members : Step → Result Step RelocationError
+few_members (EachMember members others) =
+    if nat_lt member_pair_limit (length members * length others) then Err TooManyMembers
+    else Ok (EachMember members others)
+few_members s = Ok s
 
 -- Two types whose names match.
 abbrev pub matching_step : Table → Table → Bool → Record → Record → Result Step RelocationError
 matching_step local target is_pointee r s =
     if is_enumeration (kind_of r.info) && is_enumeration (kind_of s.info)
     then (enumerators_match local target r s >>= λ is_alike. Ok (Ends is_alike))
-    else Ok (matches_by is_pointee (kind_of r.info) (kind_of s.info) r s)
+    else few_members (matches_by is_pointee (kind_of r.info) (kind_of s.info) r s)
 
--- The names of two FUNC_PROTOs do not count.
-abbrev pub exact_step : Table → Table → Bool → Option Kind → Option Kind → Record → Record
-    → Result Step RelocationError
-exact_step local target is_pointee (Some FuncProto) (Some FuncProto) r s = Ok (prototype_step is_pointee r s)
-exact_step local target is_pointee k q r s =
+-- Two types, whose names have to match.
+abbrev pub exact_step : Table → Table → Bool → Record → Record → Result Step RelocationError
+exact_step local target is_pointee r s =
     names_match local target r.name s.name >>= λ same.
     if same then matching_step local target is_pointee r s else Ok (Ends false)
 
@@ -177,8 +187,7 @@ pub record Comparison : Type 0 where
 
 abbrev pub step_by : Rule → Table → Table → Bool → Record → Record → Result Step RelocationError
 step_by Compatible local target is_pointee r s = Ok (compatible_step is_pointee r s)
-step_by Matches local target is_pointee r s =
-    exact_step local target is_pointee (kind_of r.info) (kind_of s.info) r s
+step_by Matches local target is_pointee r s = exact_step local target is_pointee r s
 
 -- what a rule finds at a pair of types that are no modifiers
 abbrev pub step_at : Comparison → Pair → Result Step RelocationError

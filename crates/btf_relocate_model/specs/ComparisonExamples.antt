@@ -1,13 +1,14 @@
 -- Worked examples of comparisons of types, computed.
-use Rattle.std.specs.Prelude.{◌≡◌, ℕ, ◌+◌, ◌*◌, ◌^◌, true, false, List, [], ◌∷◌, ◌++◌, codes, Ok, Err, refl}
+use Rattle.std.specs.Prelude.{◌≡◌, ℕ, ◌+◌, ◌*◌, ◌^◌, true, false, List, [], ◌∷◌, ◌++◌, codes, replicate, Ok, Err, refl}
 use Rattle.btf_model.specs.Record.{Record, unknown}
 use Rattle.btf_model.specs.Table.{Table}
 use Rattle.btf_model.specs.declared.endianness.Endianness.TheVariants.{Little}
-use Rattle.btf_relocate_model.specs.Comparison.{Comparison, compared, types_alike, walked}
+use Rattle.btf_relocate_model.specs.Comparison.{Comparison, EachMember, compared, few_members, types_alike, walked}
+use Rattle.btf_relocate_model.specs.Field.{Member}
 use Rattle.btf_relocate_model.specs.Types.{walk}
 use Rattle.btf_relocate_model.specs.declared.comparison.Rule.{Rule}
 use Rattle.btf_relocate_model.specs.declared.comparison.Rule.TheVariants.{Compatible, Matches}
-use Rattle.btf_relocate_model.specs.declared.error.RelocationError.TheVariants.{MaximumTypeDepthReached, UnknownBtfType}
+use Rattle.btf_relocate_model.specs.declared.error.RelocationError.TheVariants.{MaximumTypeDepthReached, TooManyMembers, UnknownBtfType}
 
 -- `int` at 1, `s` at 5, `a` at 7, `b` at 9, `u` at 11, `s___old` at 13
 texts : List ℕ
@@ -64,3 +65,13 @@ definitions_compared :
     × (types_alike (by Matches) 4 4 ≡ Err (MaximumTypeDepthReached 4))
 unfolding by local target table of_kind texts walk compared walked
 definitions_compared = (refl, refl, refl, refl, refl)
+
+-- members without a name: 1,024 times 1,024 of them, and 1,024 times 1,025
+members : ℕ → List Member
+members count = replicate count (record { name = 0; type = 1; offset = 0 })
+
+limits :
+    (few_members (EachMember (members 1024) (members 1024)) ≡ Ok (EachMember (members 1024) (members 1024)))
+    × (few_members (EachMember (members 1024) (members 1025)) ≡ Err TooManyMembers)
+unfolding members
+limits = (refl, refl)

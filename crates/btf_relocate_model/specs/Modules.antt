@@ -5,7 +5,7 @@
 -- in it is the module's own.
 use Rattle.std.specs.Prelude.{ℕ, suc, ◌^◌, ◌==◌, ◌&&◌, nat_lt, not, if◌then◌else◌, Bool, List, [], ◌∷◌, length, map, slice_get, Option, Some, None, Result, Ok, Err}
 use Rattle.btf_model.specs.Table.{Table}
-use Rattle.btf_relocate_model.specs.Resolution.{Subject, question, answers, answered_by, candidate_answer, remaining, resolution, resolved_by, validates, type_word}
+use Rattle.btf_relocate_model.specs.Resolution.{Subject, question, table_answers, answered_by, candidate_answer, remaining, resolution, resolved_by, validates, type_word}
 use Rattle.btf_relocate_model.specs.Section.{candidates_of, left_after_all, relocated_by, reported_by}
 use Rattle.btf_relocate_model.specs.Types.{◌>>=◌}
 use Rattle.btf_relocate_model.specs.declared.answer.Answer.{Answer}
@@ -60,7 +60,7 @@ abbrev pub answers_among : (Table → ℕ → Result (Option Answer) RelocationE
     → Result (Option Answer × List InModule) RelocationError
 answers_among answer first [] = Ok (first, [])
 answers_among answer first (m ∷ ms) =
-    answers (answer m.table) first m.ids >>= λ here. answers_among answer here.0 ms >>= λ rest.
+    table_answers (answer m.table) first m.ids >>= λ here. answers_among answer here.0 ms >>= λ rest.
     Ok (rest.0, record { table = m.table; ids = here.1 } ∷ rest.1)
 
 -- the table of the first of these candidates, and another if there is none

@@ -2,14 +2,14 @@
 -- Source: libbpf's `bpf_core_calc_relo_insn` with the loop over candidates in it, and `bpf_core_calc_relo`. libbpf
 -- computes the local value after the first match; since an error of either refuses the record, the same records are
 -- refused.
-use Rattle.std.specs.Prelude.{ℕ, ◌==◌, ◌&&◌, ◌||◌, not, if◌then◌else◌, Bool, true, false, List, [], ◌∷◌, codes, slice_get, slice_index, Option, Some, None, Result, Ok, Err}
+use Rattle.std.specs.Prelude.{ℕ, ◌==◌, ◌&&◌, ◌||◌, nat_lt, not, if◌then◌else◌, Bool, true, false, List, [], ◌∷◌, length, codes, slice_get, slice_index, Option, Some, None, Result, Ok, Err}
 use Rattle.std.specs.Str.{bytes_eq}
 use Rattle.btf_model.specs.Record.{Record, kind_of}
 use Rattle.btf_model.specs.Table.{Table, Variant}
 use Rattle.btf_model.specs.declared.endianness.Endianness.{Endianness}
 use Rattle.btf_model.specs.declared.endianness.Endianness.TheVariants.{Little, Big}
 use Rattle.btf_relocate_model.specs.Access.{access_of}
-use Rattle.btf_relocate_model.specs.Candidates.{is_nameless}
+use Rattle.btf_relocate_model.specs.Candidates.{candidate_limit, is_nameless}
 use Rattle.btf_relocate_model.specs.Comparison.{types_alike}
 use Rattle.btf_relocate_model.specs.Enumerator.{enumerator_at, find_enumerator}
 use Rattle.btf_relocate_model.specs.Kind.{relocation_kinds}
@@ -23,7 +23,7 @@ use Rattle.btf_relocate_model.specs.declared.answer.Match.TheVariants.{AtField, 
 use Rattle.btf_relocate_model.specs.declared.comparison.Rule.{Rule}
 use Rattle.btf_relocate_model.specs.declared.comparison.Rule.TheVariants.{Compatible, Matches}
 use Rattle.btf_relocate_model.specs.declared.error.RelocationError.{RelocationError}
-use Rattle.btf_relocate_model.specs.declared.error.RelocationError.TheVariants.{UnknownKind, OrderMismatch, BadAccess, BadIndex, AnonymousType, Ambiguous}
+use Rattle.btf_relocate_model.specs.declared.error.RelocationError.TheVariants.{UnknownKind, OrderMismatch, BadAccess, BadIndex, AnonymousType, Ambiguous, TooManyCandidates}
 use Rattle.btf_relocate_model.specs.declared.field.Value.{Value}
 use Rattle.btf_relocate_model.specs.declared.kind.RelocationKind.{RelocationKind}
 use Rattle.btf_relocate_model.specs.declared.kind.RelocationKind.TheVariants.{FieldByteOffset, FieldByteSize, FieldSigned, FieldLShift64, FieldRShift64, TypeIdLocal, TypeIdTarget, TypeExists, TypeSize, EnumeratorExists, EnumeratorValue, TypeMatches}
@@ -182,6 +182,12 @@ answers answer first [] = Ok (first, [])
 answers answer first (c ∷ cs) =
     answer c >>= λ a. joined_answer first a >>= λ next. answers answer next cs >>= λ rest. Ok (rest.0, retained c a rest.1)
 
+-- The same for all candidates of a table. A record with more than the limit is refused.
+abbrev pub table_answers : (ℕ → Result (Option Answer) RelocationError) → Option Answer → List ℕ
+    → Result (Option Answer × List ℕ) RelocationError
+table_answers answer first candidates =
+    if nat_lt candidate_limit (length candidates) then Err TooManyCandidates else answers answer first candidates
+
 -- ---- the result
 
 -- Whether an instruction must have the expected value. Compilers write other values for bit-fields and ids of types.
@@ -271,7 +277,7 @@ candidate_answer g k s c =
 -- a record whose kind needs a search, after its local value
 abbrev pub searched : TablePair → RelocationKind → Subject → List ℕ → Value → Result (Resolved × List ℕ) RelocationError
 searched g k s candidates expected =
-    answers (candidate_answer g k s) None candidates >>= λ found.
+    table_answers (candidate_answer g k s) None candidates >>= λ found.
     Ok (resolved_by g.local g.target k (validates k s) expected found.0, remaining candidates found.0 found.1)
 
 -- the kind of a record, the name of its type, and what it is about

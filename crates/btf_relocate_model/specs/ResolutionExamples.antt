@@ -1,7 +1,7 @@
 -- Worked examples of paths, searches, matches and results, computed. The program was compiled against
 -- `struct s { int a; int b; }`; the target has `struct s { struct { int c; int b; }; int a; }`, and `struct s___old` with
 -- an `int a`.
-use Rattle.std.specs.Prelude.{◌≡◌, ℕ, ◌+◌, ◌*◌, ◌^◌, Bool, true, false, List, [], ◌∷◌, ◌++◌, codes, Some, None, Ok, Err, refl}
+use Rattle.std.specs.Prelude.{◌≡◌, ℕ, ◌+◌, ◌*◌, ◌^◌, Bool, true, false, List, [], ◌∷◌, ◌++◌, codes, replicate, Some, None, Ok, Err, refl}
 use Rattle.btf_model.specs.Record.{Record, unknown}
 use Rattle.btf_model.specs.Table.{Table}
 use Rattle.btf_model.specs.declared.endianness.Endianness.TheVariants.{Little}
@@ -9,10 +9,10 @@ use Rattle.btf_relocate_model.specs.Candidates.{candidates}
 use Rattle.btf_relocate_model.specs.Compatible.{compatible_within}
 use Rattle.btf_relocate_model.specs.Match.{match_path}
 use Rattle.btf_relocate_model.specs.Path.{AtIndex, ToMember, path_of}
-use Rattle.btf_relocate_model.specs.Resolution.{TablePair, resolution}
+use Rattle.btf_relocate_model.specs.Resolution.{TablePair, resolution, table_answers}
 use Rattle.btf_relocate_model.specs.Search.{search}
 use Rattle.btf_relocate_model.specs.Types.{walk}
-use Rattle.btf_relocate_model.specs.declared.error.RelocationError.TheVariants.{BadAccess, BadIndex, TooDeep, UnknownBtfType, UnknownKind}
+use Rattle.btf_relocate_model.specs.declared.error.RelocationError.TheVariants.{BadAccess, BadIndex, TooDeep, TooManyCandidates, UnknownBtfType, UnknownKind}
 use Rattle.btf_relocate_model.specs.declared.field.Field.{Field}
 use Rattle.btf_relocate_model.specs.declared.resolved.Resolved.{Resolved}
 
@@ -95,3 +95,9 @@ results :
     × (resolution setting (3 ∷ 4 ∷ []) (0 ∷ 2 ∷ 13 ∷ 13 ∷ []) ≡ Err (UnknownKind 13))
 unfolding local target table structure int texts member_at walk search compatible_within setting moved
 results = (refl, refl, refl, refl)
+
+-- 256 candidates that do not match, and one more than a record may have
+limits :
+    (table_answers (λ c. Ok None) None (replicate 256 1) ≡ Ok (None, []))
+    × (table_answers (λ c. Ok None) None (replicate 257 1) ≡ Err TooManyCandidates)
+limits = (refl, refl)

@@ -6,7 +6,7 @@ use Rattle.std.specs.Result.{result_ok}
 use Rattle.btf_model.specs.Record.{Record, kind_number}
 use Rattle.btf_model.specs.Table.{Table}
 use Rattle.btf_model.specs.declared.endianness.Endianness.{Endianness}
-use Rattle.btf_relocate_model.specs.Candidates.{candidates}
+use Rattle.btf_relocate_model.specs.Candidates.{first_candidates}
 use Rattle.btf_relocate_model.specs.Instruction.{access_size, instruction_at, patched_code}
 use Rattle.btf_relocate_model.specs.Resolution.{TablePair, resolution, type_word, instruction_word}
 use Rattle.btf_relocate_model.specs.Types.{name_or_none}
@@ -25,7 +25,7 @@ use Rattle.btf_relocate_model.specs.declared.resolved.Resolved.{Resolved}
 
 -- the candidates for a type of the program's table; none if the id has no type
 abbrev pub candidates_by : Table → Table → Option Record → List ℕ
-candidates_by local t (Some r) = candidates t (name_or_none local r.name) (kind_number r.info)
+candidates_by local t (Some r) = first_candidates t (name_or_none local r.name) (kind_number r.info)
 candidates_by local t None = []
 
 abbrev pub candidates_of : Table → Table → ℕ → List ℕ

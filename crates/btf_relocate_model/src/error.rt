@@ -140,6 +140,14 @@ pub enum RelocationError {
     #[error("the instruction cannot be patched")]
     NotPatchable,
 
+    /// The target has more than 256 types that the record's type may be.
+    #[error("the target has more than 256 candidates")]
+    TooManyCandidates,
+
+    /// The kind compares members, and two STRUCTs or UNIONs have more than 2^20 pairs of them.
+    #[error("two types have more than 1048576 pairs of members")]
+    TooManyMembers,
+
     /// An allocation failed.
     #[error("out of memory")]
     OutOfMemory,

@@ -6,16 +6,23 @@ use std::fmt::Write;
 
 /// Writes the numbers of a section, in the order of the columns of `readelf -SW`, and its name in hexadecimal digits.
 fn write_section(text: &mut String, it: &SectionHeader, name: &str) -> anyhow::Result<()> {
-    write!(text, "{} {} {} ", it.kind, it.offset, it.size)?;
-    write!(text, "{} {} {} ", it.entry_size, it.flags, it.link)?;
-    write!(text, "{} {} {name};", it.info, it.alignment)?;
+    let (kind, offset, size, each) = (it.kind, it.offset, it.size, it.entry_size);
+    let (flags, link, info, alignment) = (it.flags, it.link, it.info, it.alignment);
+    write!(
+        text,
+        "{kind} {offset} {size} {each} {flags} {link} {info} {alignment} {name};"
+    )?;
     Ok(())
 }
 
 /// Writes the numbers of a symbol, in the order of the columns of `readelf -sW`, and its name in hexadecimal digits.
 fn write_symbol(text: &mut String, it: &Symbol, name: &str) -> anyhow::Result<()> {
-    write!(text, "{} {} {} ", it.value, it.size, it.kind)?;
-    write!(text, "{} {} {} {name};", it.binding, it.other, it.section)?;
+    let (value, size, kind) = (it.value, it.size, it.kind);
+    let (binding, other, section) = (it.binding, it.other, it.section);
+    write!(
+        text,
+        "{value} {size} {kind} {binding} {other} {section} {name};"
+    )?;
     Ok(())
 }
 

@@ -44,6 +44,7 @@ fn answer(alloc: Global, line: &str) -> anyhow::Result<String> {
     let mut words = Words::new(alloc, line);
     match words.word() {
         "record" => records::record(&mut words),
+        "bits" => records::int_bits(&mut words),
         "built" => records::built_record(&mut words),
         "traced" => comparison::traced(&mut words),
         "names" => names::names(&mut words),
@@ -61,9 +62,9 @@ fn main(rt: HostRuntime) -> anyhow::Result<()> {
     let text = io::read_to_string(rt.alloc(), rt.reader())?;
     for line in text.as_str().lines() {
         match answer(rt.alloc(), line) {
-            Ok(answer) => println!(rt; "{}", answer.as_str())?,
-            Err(e) => println!(rt; "{e}")?,
-        }
+            Ok(answer) => println!(rt; "{}", answer.as_str()),
+            Err(e) => println!(rt; "{e}"),
+        }?;
     }
     Ok(())
 }

@@ -31,6 +31,18 @@ pub fn record(words: &mut Words<'_>) -> anyhow::Result<String> {
     text(words.alloc, &record, order)
 }
 
+/// `bits ORDER BYTES`: the number of bits of an INT.
+pub fn int_bits(words: &mut Words<'_>) -> anyhow::Result<String> {
+    let order = words.order();
+    let bytes = words.bytes()?;
+    let record = BtfType::read(words.alloc, &bytes, order)?;
+    let bits = match &record {
+        BtfType::Int(int) => Some(int.bits()),
+        _ => None,
+    };
+    Ok(format!(in words.alloc; "{bits:?}")?)
+}
+
 fn func_proto(alloc: Global) -> Result<BtfType, AllocError> {
     let param = |name_offset| BtfParam {
         name_offset,

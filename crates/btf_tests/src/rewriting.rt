@@ -92,9 +92,9 @@ pub fn bytes(words: &mut Words<'_>) -> anyhow::Result<String> {
     };
     let mut text = answers_text(alloc, resolver.answers())?;
     match written {
-        Ok((bytes, _)) => write!(text, "{}", hex::encode(alloc, bytes)?.as_str())?,
-        Err(e) => write!(text, "{e}")?,
-    }
+        Ok((bytes, _)) => write!(text, "{}", hex::encode(alloc, bytes)?.as_str()),
+        Err(e) => write!(text, "{e}"),
+    }?;
     Ok(text)
 }
 

@@ -1,10 +1,10 @@
 -- What a pass over a blob finds.
-use Rattle.std.specs.Prelude.{◌≡◌, ◌≢◌, ℕ, ◌+◌, ◌*◌, ◌<◌, ◌^◌, ◌≤◌, List, [], ◌∷◌, length, take, Result, Ok, Err, Some}
+use Rattle.std.specs.Prelude.{◌≡◌, ◌≢◌, ℕ, ◌+◌, ◌<◌, ◌^◌, ◌≤◌, List, [], ◌∷◌, length, take, Result, Ok, Err, Some}
 use Rattle.btf_model.specs.declared.endianness.Endianness.{Endianness}
 use Rattle.btf_model.specs.Record.{Record, unknown}
 use Rattle.btf_model.specs.Refusal.{Refusal}
 use Rattle.btf_model.specs.Table.{Table}
-use Rattle.btf_model.specs.Blob.{slice, header_of, AreRecords, IsTable, IsRefusal, IsRest, ReadsFront, rest_refusal}
+use Rattle.btf_model.specs.Blob.{slice, AreRecords, IsTable, IsRefusal, IsRest, ReadsFront, rest_refusal}
 use Rattle.btf_plain.specs.Error.{refusal_of}
 use Rattle.btf_plain.specs.declared.error.BtfError.{BtfError}
 use Rattle.btf_model.specs.Spelling.{IsRecord}
@@ -20,7 +20,7 @@ HasLength order bytes (Ok len) =
 HasLength order bytes (Err e) =
     (refusal : Refusal) × (refusal_of e ≡ Some refusal) × ReadsFront order bytes (Err refusal)
 
--- The places of all records of a type section, Unknown first; why its rest is refused; or too few places.
+-- The places of all records of a type section, Unknown first; why its rest is refused; or more records than places.
 abbrev pub FillsPlaces : Endianness → List ℕ → List ℕ → Result ℕ Unindexed → Type 0
 FillsPlaces order types places (Ok count) =
     (rs : List Record) × AreRecords order types rs × (count ≤ length places)
@@ -28,7 +28,8 @@ FillsPlaces order types places (Ok count) =
 FillsPlaces order types places (Err (Refused e)) =
     (refusal : Refusal) × (refusal_of e ≡ Some refusal)
     × (rest : List ℕ) × IsRest order types rest × (rest ≢ []) × (refusal ≡ rest_refusal order rest)
-FillsPlaces order types places (Err TooFewPlaces) = 12 * length places ≤ length types
+FillsPlaces order types places (Err TooFewPlaces) =
+    (rs : List Record) × AreRecords order types rs × (length places ≤ length rs)
 
 -- The blob represents a table: the header's values, where both sections are, and the place of each record in the type
 -- section.
@@ -44,10 +45,11 @@ pub record IsIndexed (order : Endianness) (bytes places : List ℕ) (index : Sec
   pub count : index.count ≤ length places
   pub places_are : AreIndexed order (slice index.types_at index.types_len bytes) (take index.count places) table.records
 
--- What indexing returns: the sections and the places; the first reason to refuse the bytes; or that there are fewer
--- places than a type section of this length may need.
+-- What indexing returns: the sections and the places of a table; the first reason to refuse the bytes; or that the bytes
+-- represent a table with more types than there are places.
 abbrev pub IndexesBlob : Endianness → List ℕ → List ℕ → Result Sections Unindexed → Type 0
 IndexesBlob order bytes places (Ok index) = IsIndexed order bytes places index
 IndexesBlob order bytes places (Err (Refused e)) =
     (refusal : Refusal) × (refusal_of e ≡ Some refusal) × IsRefusal order bytes refusal
-IndexesBlob order bytes places (Err TooFewPlaces) = 12 * length places ≤ (header_of order bytes).type_len
+IndexesBlob order bytes places (Err TooFewPlaces) =
+    (t : Table) × IsTable order bytes t × (length places < length t.records)

@@ -1,6 +1,6 @@
 //! Finding the records of a blob, in one pass.
 
-ghost use Rattle.std.specs.Prelude.{◌≡◌, ◌≤◌, length};
+ghost use Rattle.std.specs.Prelude.{◌≡◌, ◌≤◌, length, set};
 ghost use Rattle.btf_view.specs.Index.{FillsPlaces, IndexesBlob};
 
 use crate::header::{Header, section};
@@ -43,8 +43,9 @@ pub enum Unindexed {
 /// Finds where the records of a blob begin, whose words are in this byte order, and writes their places in the type
 /// section to `places`, by their ids. The place of id 0, which has no bytes, is the end of the section.
 ///
-/// Reports the first error of `Btf::parse`, or `TooFewPlaces` if there are fewer places than types. After an error the
-/// places have no meaning.
+/// Fails with the first error of `Btf::parse` if the blob represents no table. Fails with `TooFewPlaces` exactly if the
+/// blob represents a table with more types, the one of id 0 among them, than there are places. After an error the places
+/// have no meaning.
 pub fn index(data: &[u8], endianness: Endianness, places: &mut [u32]) -> Result<Sections, Unindexed>
     ensures { IndexesBlob endianness «data».now places.new result }
 {
@@ -80,10 +81,7 @@ fn fill_places(types: &[u8], endianness: Endianness, places: &mut [u32]) -> Resu
     requires { length types.now ≤ u32.MAX }
     ensures { FillsPlaces endianness types.now places.new result }
 {
-    if places.is_empty() {
-        return Err(Unindexed::TooFewPlaces);
-    }
-    places[0] = types.len() as u32;
+    put_place(places, 0, types.len());
     let mut count = 1;
     let mut at = 0;
     while at < types.len() {
@@ -91,12 +89,23 @@ fn fill_places(types: &[u8], endianness: Endianness, places: &mut [u32]) -> Resu
             Ok(len) => len,
             Err(error) => return Err(Unindexed::Refused(error)),
         };
-        if count == places.len() {
-            return Err(Unindexed::TooFewPlaces);
-        }
-        places[count] = at as u32;
+        put_place(places, count, at);
         count += 1;
         at += len;
     }
+    if places.len() < count {
+        return Err(Unindexed::TooFewPlaces);
+    }
     Ok(count)
+}
+
+/// Writes the place of a type, if its id has one.
+#[inline(always)]
+fn put_place(places: &mut [u32], id: usize, place: usize)
+    requires { place ≤ u32.MAX }
+    ensures { places.new ≡ set places.old id place }
+{
+    if id < places.len() {
+        places[id] = place as u32;
+    }
 }

@@ -5,7 +5,9 @@ use crate::run::{Answer, Cause, Failure, blame, hasher, read, read_over, read_ta
 use btf_loader::{CandidatePolicy, Refusals};
 use btf_relocate::{Target, Targets};
 use btf_table::Btf;
-use btfobj_cli::{Ending, Fault, Form, Relocated, Relocation, list_relocations, relocate};
+use btfobj_cli::{
+    Ending, Fault, Form, Relocated, Relocation, asks_for_few_types, list_relocations, relocate,
+};
 
 /// Relocates the code of an object. Writes the new object, or without an output what was done for its records; as JSON
 /// it is also written beside an output.
@@ -31,8 +33,9 @@ fn relocate_over<'a, 't>(
     tables: &'t [Btf],
     out: &mut Output<'_>,
 ) -> Result<Answer, Failure<'a>> {
-    let kernel = index(rt, relocation.target, table)?;
-    let modules = indices(rt, &relocation.modules, tables)?;
+    let searches = searches_of(rt, file, bytes, relocation.policy);
+    let kernel = target_over(rt, relocation.target, table, searches)?;
+    let modules = targets_over(rt, &relocation.modules, tables, searches)?;
     relocate_for(rt, file, bytes, relocation, &kernel, &modules, out)
 }
 
@@ -78,12 +81,12 @@ pub fn summarize<'a>(
     out: &mut Output<'_>,
 ) -> Result<Ending, Failure<'a>> {
     let table = read_table(rt, target, None)?;
-    let target = index(rt, target, &table)?;
+    let (policy, refusals) = (CandidatePolicy::Shared, Refusals::Keep);
+    let target = target_over(rt, target, &table, searches_of(rt, file, bytes, policy))?;
     let targets = Targets {
         kernel: &target,
         modules: &[],
     };
-    let (policy, refusals) = (CandidatePolicy::Shared, Refusals::Keep);
     let keys = hasher(rt, file)?;
     let relocated = relocate(rt.alloc(), bytes, &targets, policy, refusals, keys);
     let (_, sections) = blame(file, relocated)?;
@@ -111,12 +114,39 @@ fn list<'a>(
     )
 }
 
-/// The index of the table of a file.
-fn index<'a, 't>(
+/// How often an object searches the tables that it is relocated against.
+#[derive(Clone, Copy)]
+enum Searches {
+    /// For few types, each of them once.
+    Few,
+    /// Often.
+    Many,
+}
+
+/// How often an object searches the tables that it is relocated against. One that cannot be read does not.
+fn searches_of(rt: &HostRuntime, file: &str, bytes: &[u8], policy: CandidatePolicy) -> Searches {
+    if let CandidatePolicy::Fresh = policy {
+        return Searches::Many;
+    }
+    let Ok(keys) = hasher(rt, file) else {
+        return Searches::Few;
+    };
+    match asks_for_few_types(rt.alloc(), bytes, keys) {
+        Ok(false) => Searches::Many,
+        Ok(true) | Err(_) => Searches::Few,
+    }
+}
+
+/// The table of a file as a target, with an index of its types if it is searched often.
+fn target_over<'a, 't>(
     rt: &HostRuntime,
     file: &'a str,
     table: &'t Btf,
+    searches: Searches,
 ) -> Result<Target<'t>, Failure<'a>> {
+    if let Searches::Few = searches {
+        return Ok(Target::without_index(table));
+    }
     match Target::new(rt.alloc(), table) {
         Ok(target) => Ok(target),
         Err(e) => Err(Failure {
@@ -140,15 +170,16 @@ fn read_modules<'a>(
     Ok(tables)
 }
 
-/// The indices of these tables, which are those of these files.
-fn indices<'a, 't>(
+/// The tables of these files as targets.
+fn targets_over<'a, 't>(
     rt: &HostRuntime,
     files: &[&'a str],
     tables: &'t [Btf],
+    searches: Searches,
 ) -> Result<Vec<Target<'t>>, Failure<'a>> {
     let mut targets = Vec::new(rt.alloc());
     for (file, table) in files.iter().zip(tables) {
-        let target = index(rt, *file, table)?;
+        let target = target_over(rt, *file, table, searches)?;
         add(*file, &mut targets, target)?;
     }
     Ok(targets)

@@ -9,7 +9,7 @@ use btf_rewrite_model::{BtfFeature, FeatureAnswer};
 use btf_table::Btf;
 use btf_text::Selection;
 use btfobj_cli::{
-    Ending, Fault, InputFile, Request, Rewrite, check, compat, dump, explain, ext,
+    Action, Ending, Fault, InputFile, Request, Rewrite, check, compat, dump, explain, ext,
     file_has_externs, header, is_split, layout, running_base, sanitize, table_alone,
 };
 use std::alloc::Global;
@@ -93,27 +93,54 @@ impl From<Ending> for Answer {
     }
 }
 
-/// Carries out a request, and returns the status: 0 on success, 1 for an error or a negative check, 3 for a poisoned
-/// instruction, 4 for an object that lacks its externs, and 141 if the reader of standard output closed it.
-pub fn carry_out(rt: &HostRuntime, request: &Request<'_>) -> ExitCode {
-    let mut out = Output::new(rt);
-    match answer_request(rt, request, &mut out) {
-        Ok(Answer::Yes) => ExitCode::SUCCESS,
-        Ok(Answer::No) => ExitCode::FAILURE,
-        Ok(Answer::Poisoned) => ExitCode::from(POISONED),
-        Ok(Answer::WithoutExterns) => ExitCode::from(WITHOUT_EXTERNS),
-        Err(failure) => report(rt, &failure, out.into_failure()),
+impl Answer {
+    /// The answer of two files. An error and a negative check go before a poisoned instruction.
+    fn and(self, other: Answer) -> Answer {
+        match (self, other) {
+            (Answer::No, _) | (_, Answer::No) => Answer::No,
+            (Answer::Yes, other) => other,
+            (answer, _) => answer,
+        }
+    }
+
+    /// The status of the answer.
+    fn status(self) -> u8 {
+        match self {
+            Answer::Yes => 0,
+            Answer::No => 1,
+            Answer::Poisoned => POISONED,
+            Answer::WithoutExterns => WITHOUT_EXTERNS,
+        }
     }
 }
 
-/// Reports a failure, with the reason if standard output failed, and returns the status. A closed pipe is not reported.
-fn report(rt: &HostRuntime, failure: &Failure<'_>, output: Option<io::Error>) -> ExitCode {
-    match output {
-        Some(reason) => report_output(rt, &reason),
+/// Carries out a request on each of its files, and returns the status: 0 on success, 1 for an error or a negative check
+/// of any file, else 3 for a poisoned instruction, 4 for an object that lacks its externs, and 141 if the reader of
+/// standard output closed it.
+pub fn carry_out(rt: &HostRuntime, request: &Request<'_>) -> ExitCode {
+    let mut all = Answer::Yes;
+    for file in &request.files {
+        match answer_file(rt, *file, request) {
+            Ok(answer) => all = all.and(answer),
+            Err(reason) => return report_output(rt, &reason),
+        }
+    }
+    ExitCode::from(all.status())
+}
+
+/// Carries out a request on a file, and reports its failure. The error is the reason if standard output failed.
+fn answer_file(rt: &HostRuntime, file: &str, request: &Request<'_>) -> io::Result<Answer> {
+    let mut out = Output::new(rt);
+    let failure = match answer_titled(rt, file, request, &mut out) {
+        Ok(answer) => return Ok(answer),
+        Err(failure) => failure,
+    };
+    match out.into_failure() {
+        Some(reason) => Err(reason),
         None => {
             // An error of standard error cannot be reported.
             let _ = eprintln!(rt; "{failure}");
-            ExitCode::FAILURE
+            Ok(Answer::No)
         }
     }
 }
@@ -128,49 +155,61 @@ pub fn report_output(rt: &HostRuntime, reason: &io::Error) -> ExitCode {
     ExitCode::FAILURE
 }
 
-/// Carries out a request.
-fn answer_request<'a>(
+/// Carries out a request on a file. Of several files, each has its name before what is written of it.
+fn answer_titled<'a>(
     rt: &HostRuntime,
+    file: &'a str,
     request: &Request<'a>,
     out: &mut Output<'_>,
 ) -> Result<Answer, Failure<'a>> {
-    match request {
-        Request::Dump {
+    if request.files.len() > 1 {
+        write_title(file, out)?;
+    }
+    answer_action(rt, file, &request.action, out)
+}
+
+/// Writes the name of a file, as readelf does.
+fn write_title<'a>(file: &'a str, out: &mut Output<'_>) -> Result<(), Failure<'a>> {
+    match write!(out, "\nFile: {file}\n") {
+        Ok(()) => Ok(()),
+        Err(e) => Err(Failure {
             file,
-            base,
-            selection,
-        } => write_types(rt, file, *base, selection, out)?,
-        Request::Header {
-            file,
-            base,
-            names,
-            kind,
-        } => write_declarations(rt, file, *base, names, *kind, out)?,
-        Request::Layout { file, base, name } => write_members(rt, file, *base, name, out)?,
-        Request::Ext { file, base } => write_records(rt, file, *base, out)?,
-        Request::Check {
-            file,
-            rewrite,
-            target,
-        } => return check_file(rt, file, rewrite, *target, out),
-        Request::Sanitize {
-            file,
+            cause: Cause::Io(e),
+        }),
+    }
+}
+
+/// Does what is asked with a file.
+fn answer_action<'a>(
+    rt: &HostRuntime,
+    file: &'a str,
+    action: &Action<'a>,
+    out: &mut Output<'_>,
+) -> Result<Answer, Failure<'a>> {
+    match action {
+        Action::Dump { base, selection } => write_types(rt, file, *base, selection, out)?,
+        Action::Header { base, names, kind } => {
+            write_declarations(rt, file, *base, names, *kind, out)?
+        }
+        Action::Layout { base, name } => write_members(rt, file, *base, name, out)?,
+        Action::Ext { base } => write_records(rt, file, *base, out)?,
+        Action::Check { rewrite, target } => {
+            return check_file(rt, file, rewrite, *target, out);
+        }
+        Action::Sanitize {
             output,
             rewrite,
             is_table_only,
         } => return write_sanitized(rt, file, output, rewrite, *is_table_only, out),
-        Request::Compat {
-            local,
+        Action::Compat {
             target,
             base,
             names,
         } => {
             let target = (*target, *base);
-            return Ok(Answer::from(are_compatible(rt, local, target, names, out)?));
+            return Ok(Answer::from(are_compatible(rt, file, target, names, out)?));
         }
-        Request::Relocate { file, relocation } => {
-            return relocate_file(rt, file, relocation, out);
-        }
+        Action::Relocate { relocation } => return relocate_file(rt, file, relocation, out),
     }
     Ok(Answer::Yes)
 }

@@ -34,9 +34,9 @@ static KINDS: [&str; 19] = [
 /// How an argument is given.
 enum Form {
     /// By its place.
-    File,
+    Place,
     /// By its place, one or more of them.
-    Names,
+    Places,
     /// `--NAME VALUE`.
     Value,
     /// `--NAME VALUE`, any number of times.
@@ -73,43 +73,51 @@ struct Description {
 }
 
 /// The arguments: the help of a command has them in this order.
-static ARGUMENTS: [Argument; 28] = [
+static ARGUMENTS: [Argument; 29] = [
     Argument {
-        of: &["dump", "header", "layout", "check", "sanitize"],
+        of: &["header", "layout", "sanitize"],
         name: "file",
-        form: Form::File,
+        form: Form::Place,
         value: "FILE",
         is_required: true,
         help: "The object or table",
     },
     Argument {
-        of: &["ext"],
+        of: &["dump", "check"],
         name: "file",
-        form: Form::File,
+        form: Form::Places,
         value: "FILE",
         is_required: true,
-        help: "The object",
+        help: "The object or table; each further one is listed after it",
+    },
+    Argument {
+        of: &["ext"],
+        name: "file",
+        form: Form::Places,
+        value: "FILE",
+        is_required: true,
+        help: "The object; each further one is listed after it",
     },
     Argument {
         of: &["relocate"],
         name: "file",
-        form: Form::File,
+        form: Form::Places,
         value: "FILE",
         is_required: true,
-        help: "The program's object",
+        help: "The program's object; without -o and --json, each further one is listed after it",
     },
     Argument {
         of: &["layout"],
         name: "name",
-        form: Form::File,
+        form: Form::Place,
         value: "NAME",
         is_required: true,
         help: "The structure, the union, or the typedef of one",
     },
     Argument {
         of: &["compat"],
-        name: "local",
-        form: Form::File,
+        name: "file",
+        form: Form::Place,
         value: "FILE",
         is_required: true,
         help: "The program's object or table",
@@ -117,7 +125,7 @@ static ARGUMENTS: [Argument; 28] = [
     Argument {
         of: &["compat"],
         name: "target",
-        form: Form::File,
+        form: Form::Place,
         value: "TARGET",
         is_required: true,
         help: "The kernel's object or table",
@@ -125,7 +133,7 @@ static ARGUMENTS: [Argument; 28] = [
     Argument {
         of: &["header"],
         name: "names",
-        form: Form::Names,
+        form: Form::Places,
         value: "NAME",
         is_required: false,
         help: "Only types of these names, and the types that they need",
@@ -133,7 +141,7 @@ static ARGUMENTS: [Argument; 28] = [
     Argument {
         of: &["compat"],
         name: "names",
-        form: Form::Names,
+        form: Form::Places,
         value: "NAME",
         is_required: true,
         help: "The types",
@@ -370,8 +378,8 @@ fn arg_of<'a>(alloc: Global, row: &'a Argument) -> Arg<'a> {
         .help(row.help)
         .required(row.is_required);
     match row.form {
-        Form::File => arg.value_name(row.value),
-        Form::Names => arg.value_name(row.value).num_args(1..),
+        Form::Place => arg.value_name(row.value),
+        Form::Places => arg.value_name(row.value).num_args(1..),
         Form::Value => arg.long(row.name).value_name(row.value),
         Form::Values => arg
             .long(row.name)

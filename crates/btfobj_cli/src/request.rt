@@ -50,55 +50,56 @@ impl Relocation<'_> {
     }
 }
 
-/// The request of a command line. A file `-` is standard input, and an output `-` is standard output. The file `base`
-/// has the base of a split table.
+/// The request of a command line: the files, and what to do with each of them. A file `-` is standard input, and an
+/// output `-` is standard output.
 #[derive(Debug, Drop)]
-pub enum Request<'a> {
-    /// Dumps the types of a file's table.
+pub struct Request<'a> {
+    /// The files: one, or more for an action that only lists.
+    pub files: Vec<&'a str>,
+    /// What to do.
+    pub action: Action<'a>,
+}
+
+/// What to do with a file. The file `base` has the base of a split table.
+#[derive(Debug, Drop)]
+pub enum Action<'a> {
+    /// Dumps the types of the file's table.
     Dump {
-        file: &'a str,
         base: Option<&'a str>,
         selection: Selection<'a>,
     },
     /// Writes types as a C header: all types, or those of these names or of this kind, and the types that they need.
     Header {
-        file: &'a str,
         base: Option<&'a str>,
         names: Vec<&'a str>,
         kind: Option<BtfKind>,
     },
     /// Writes the layout of a structure or a union.
     Layout {
-        file: &'a str,
         base: Option<&'a str>,
         name: &'a str,
     },
     /// Writes the contents of `.BTF.ext`.
     Ext {
-        file: &'a str,
         base: Option<&'a str>,
     },
     /// Writes the changes that a rewrite would make, and if there is a target, the relocations that it cannot satisfy.
     Check {
-        file: &'a str,
         rewrite: Rewrite<'a>,
         target: Option<&'a str>,
     },
-    /// Rewrites a file, and writes the new file, or its table alone.
+    /// Rewrites the file, and writes the new file, or its table alone.
     Sanitize {
-        file: &'a str,
         output: &'a str,
         rewrite: Rewrite<'a>,
         is_table_only: bool,
     },
-    /// Relocates the code of an object.
+    /// Relocates the code of the object.
     Relocate {
-        file: &'a str,
         relocation: Relocation<'a>,
     },
-    /// Compares the types of these names in two tables; the base is that of the second.
+    /// Compares the types of these names in the file's table and another one, which has the base.
     Compat {
-        local: &'a str,
         target: &'a str,
         base: Option<&'a str>,
         names: Vec<&'a str>,
@@ -114,28 +115,51 @@ pub fn read_request<'a>(alloc: Global, words: &'a [&'a str]) -> Result<Request<'
         Some(found) => found,
         None => return Err(refusal(&mut command, "a command is missing")),
     };
-    let (file, base) = (text(matches, "file"), matches.get_str("base"));
+    let files = matches.get_strs("file").unwrap_or(&[]);
+    if files.len() > most_files(matches) {
+        return Err(refusal(&mut command, "-o and --json take one FILE"));
+    }
+    let action = read_action(alloc, &mut command, name, matches)?;
+    Ok(Request {
+        files: Vec::from_slice(alloc, files)?,
+        action,
+    })
+}
+
+/// The number of files that an action takes: one if it writes an object or a document.
+fn most_files(matches: &ArgMatches<'_>) -> usize {
+    if matches.get_flag("json") || matches.get_str("output").is_some() {
+        1
+    } else {
+        usize::MAX
+    }
+}
+
+/// What a command does.
+fn read_action<'a>(
+    alloc: Global,
+    command: &mut Command<'_>,
+    name: &str,
+    matches: &ArgMatches<'a>,
+) -> Result<Action<'a>, Error> {
+    let base = matches.get_str("base");
     match name {
-        "dump" => Ok(Request::Dump {
-            file,
+        "dump" => Ok(Action::Dump {
             base,
-            selection: read_selection(&mut command, matches)?,
+            selection: read_selection(command, matches)?,
         }),
-        "header" => Ok(Request::Header {
-            file,
+        "header" => Ok(Action::Header {
             base,
             names: Vec::from_slice(alloc, matches.get_strs("names").unwrap_or(&[]))?,
             kind: matches.get_str("kind").and_then(kind_of_name),
         }),
-        "layout" => Ok(Request::Layout {
-            file,
+        "layout" => Ok(Action::Layout {
             base,
             name: text(matches, "name"),
         }),
-        "ext" => Ok(Request::Ext { file, base }),
-        "check" => Ok(Request::Check {
-            file,
-            rewrite: read_rewrite(alloc, &mut command, matches, TableReader::Kernel)?,
+        "ext" => Ok(Action::Ext { base }),
+        "check" => Ok(Action::Check {
+            rewrite: read_rewrite(alloc, command, matches, TableReader::Kernel)?,
             target: matches.get_str("target"),
         }),
         "sanitize" => {
@@ -146,19 +170,16 @@ pub fn read_request<'a>(alloc: Global, words: &'a [&'a str]) -> Result<Request<'
             } else {
                 TableReader::Loaders
             };
-            Ok(Request::Sanitize {
-                file,
+            Ok(Action::Sanitize {
                 output: text(matches, "output"),
-                rewrite: read_rewrite(alloc, &mut command, matches, reader)?,
+                rewrite: read_rewrite(alloc, command, matches, reader)?,
                 is_table_only,
             })
         }
-        "relocate" => Ok(Request::Relocate {
-            file,
+        "relocate" => Ok(Action::Relocate {
             relocation: read_relocation(alloc, matches)?,
         }),
-        _ => Ok(Request::Compat {
-            local: text(matches, "local"),
+        _ => Ok(Action::Compat {
             target: text(matches, "target"),
             base,
             names: Vec::from_slice(alloc, matches.get_strs("names").unwrap_or(&[]))?,

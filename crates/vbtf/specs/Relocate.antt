@@ -86,7 +86,9 @@ relocation_place relocation.WrongAccessSize = 24
 relocation_place relocation.BadAccessSize = 25
 relocation_place relocation.BadLdImm64 = 26
 relocation_place relocation.NotPatchable = 27
-relocation_place relocation.OutOfMemory = 28
+relocation_place relocation.TooManyCandidates = 28
+relocation_place relocation.TooManyMembers = 29
+relocation_place relocation.OutOfMemory = 30
 
 -- The field of an error: a kind, the id of a type, or a string offset; 0 if it has none.
 abbrev pub relocation_detail : RelocationError → ℕ

@@ -179,10 +179,21 @@ FillsWithoutMemory strings offset old_out new_out needed fault result =
     IfSome (bytes_at strings offset) IsUtf8
     → FillsOrReports result old_out new_out needed fault (λ answer. answer ≡ text_at strings offset)
 
--- The outcomes of a call that writes a text to a buffer, if the text is not defined here: some text fills the buffer, or
--- the buffer is unchanged.
-abbrev pub FillsOrKeeps : List ℕ → List ℕ → ℕ → ℕ → Type 0
-FillsOrKeeps old new needed status = ((text : List ℕ) × Fills text old new needed status) ⊎ (new ≡ old)
+-- The status and the fault report a text that would be too long.
+abbrev pub ReportsTooLong : ℕ → Fault → Type 0
+ReportsTooLong status fault = (status ≡ 111) × (fault.number ≡ 111) × HasDetails fault no_details
+
+-- The status and the fault report why a text is not written: it would be too long, or the table has an error, or an
+-- allocation failed.
+abbrev pub ReportsNoText : ℕ → Fault → Type 0
+ReportsNoText status fault =
+    ReportsTooLong status fault ⊎ ((refusal : Option Refusal) × ReportsError status fault refusal)
+
+-- The outcomes of a call that writes a text to a buffer, if the text is not defined here: some text fills the buffer; or
+-- the buffer is unchanged, and the status reports why.
+abbrev pub FillsOrReportsText : ℕ → List ℕ → List ℕ → ℕ → Fault → Type 0
+FillsOrReportsText status old new needed fault =
+    ((text : List ℕ) × Fills text old new needed status) ⊎ ((new ≡ old) × ReportsNoText status fault)
 
 -- P holds of the table that a handle lends, if it lends one.
 abbrev pub IfLends : Handle → (Table → Type 0) → Type 0

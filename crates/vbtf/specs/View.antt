@@ -1,12 +1,12 @@
 -- The outcomes of the calls that read a blob by the places of its records.
-use Rattle.std.specs.Prelude.{◌≡◌, ◌⊎◌, ◌+◌, ◌*◌, ◌≤◌, ℕ, List, length, take, Some, slice_get}
+use Rattle.std.specs.Prelude.{◌≡◌, ◌⊎◌, ◌+◌, ◌<◌, ◌≤◌, ℕ, List, length, take, Some, slice_get}
 use Rattle.btf_model.specs.declared.endianness.Endianness.{Endianness}
 use Rattle.btf_model.specs.Record.{Kind, Record, kinds}
 use Rattle.btf_model.specs.Refusal.{Refusal}
 use Rattle.btf_model.specs.Table.{Table}
 use Rattle.btf_model.specs.Text.{FindsName}
 use Rattle.std.specs.Str.{IsUtf8}
-use Rattle.btf_model.specs.Blob.{IsRefusal, IsTable, header_of, slice}
+use Rattle.btf_model.specs.Blob.{IsRefusal, IsTable, slice}
 use Rattle.btf_table.specs.Readable.{IsReadableEnd}
 use Rattle.btf_view.specs.Places.{AreIndexed, ForRecords}
 use Rattle.btf_view.specs.declared.indexing.Sections.{Sections}
@@ -47,14 +47,14 @@ pub record IsView (order : Endianness) (bytes places : List ℕ) (parts : ViewPa
   pub places_are : AreIndexed order (slice parts.types_at parts.types_len bytes) (take parts.count places) table.records
 
 -- For the number of an order, the outcomes of indexing a blob: status 0 and the parts of a view; the first reason to
--- refuse the bytes; or status 100, and there are fewer places than a type section of this length may need.
+-- refuse the bytes; or status 100, and the bytes represent a table with more types than there are places.
 abbrev pub EndsIndexingBlob : ℕ → ℕ → List ℕ → List ℕ → ViewParts → Fault → Type 0
 EndsIndexingBlob status order bytes places parts fault =
     let o : Endianness = order_chosen order bytes in
     order ≤ 2
     → ((status ≡ 0) × IsView o bytes places parts)
     ⊎ ((refusal : Refusal) × ReportsRefusal status fault refusal × IsRefusal o bytes refusal)
-    ⊎ ((status ≡ 100) × (12 * length places ≤ (header_of o bytes).type_len))
+    ⊎ ((status ≡ 100) × (t : Table) × IsTable o bytes t × (length places < length t.records))
 
 -- For one of the two orders, P holds for the records at these places.
 abbrev pub ForPlaces : ℕ → List ℕ → List ℕ → (List Record → Type 0) → Type 0

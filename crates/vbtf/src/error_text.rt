@@ -24,9 +24,9 @@ pub extern "C" fn vbtf_raw_error_text(
 ) -> u32
     ensures text { 1 ≤ fault.now.number → fault.now.number ≤ no_memory
         → WritesText out.old out.new needed.new result }
-    ensures relocation { fault.now.number ≡ 107 → 1 ≤ fault.now.id → fault.now.id ≤ 28
+    ensures relocation { fault.now.number ≡ 107 → 1 ≤ fault.now.id → fault.now.id ≤ 30
         → WritesText out.old out.new needed.new result }
-    ensures no_relocation { fault.now.number ≡ 107 → (fault.now.id < 1) ⊎ (28 < fault.now.id)
+    ensures no_relocation { fault.now.number ≡ 107 → (fault.now.id < 1) ⊎ (30 < fault.now.id)
         → (result ≡ INVALID_ARGUMENT) × (out.new ≡ out.old) }
     ensures no_error { IsNoError fault.now.number → fault.now.number ≢ 107
         → (result ≡ INVALID_ARGUMENT) × (out.new ≡ out.old) }

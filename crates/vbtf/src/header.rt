@@ -1,7 +1,7 @@
 //! The types of a table as a C header.
 
 ghost use Rattle.std.specs.Prelude.{◌≡◌, ◌≢◌};
-ghost use Rattle.vbtf.specs.Status.{FillsOrKeeps, KeepsHandle};
+ghost use Rattle.vbtf.specs.Status.{FillsOrReportsText, KeepsHandle, ReportsNoText};
 
 use crate::fault::{CLOSED, Fault, report, report_number};
 use crate::handle::Handle;
@@ -27,7 +27,8 @@ pub extern "C" fn vbtf_lent_header(
     needed: &mut u64,
     fault: &mut Fault,
 ) -> u32
-    ensures text { table.old.state ≡ 2 → FillsOrKeeps out.old out.new needed.new result }
+    ensures text { table.old.state ≡ 2
+        → FillsOrReportsText result out.old out.new needed.new fault.new }
     ensures closed { table.old.state ≢ 2 → (result ≡ CLOSED) × (out.new ≡ out.old) }
     ensures kept { KeepsHandle table.old table.new }
 {
@@ -47,7 +48,7 @@ fn write_types(
     needed: &mut u64,
     fault: &mut Fault,
 ) -> u32
-    ensures { FillsOrKeeps out.old out.new needed.new result }
+    ensures { FillsOrReportsText result out.old out.new needed.new fault.new }
 {
     let mut text = String::new(alloc);
     match write_header(alloc, table, &HeaderTypes::All, &mut text) {
@@ -57,7 +58,9 @@ fn write_types(
 }
 
 /// Writes the details of an error of a text, and returns its status. A text in memory fails only without memory.
-fn report_text(error: TextError, fault: &mut Fault) -> u32 {
+fn report_text(error: TextError, fault: &mut Fault) -> u32
+    ensures { ReportsNoText result fault.new }
+{
     match error {
         TextError::Table(error) => report(error, fault),
         TextError::TooLong => report_number(fault, TOO_LONG, 0, 0),

@@ -6,6 +6,7 @@ ghost use Rattle.btf_model.specs.Record.{kinds};
 ghost use Rattle.btf_model.specs.Refusal.{UnknownBtfTypeName};
 ghost use Rattle.btf_plain.specs.Error.{MeetsOrNoMemory};
 ghost use Rattle.btf_plain.specs.Kind as plain;
+ghost use Rattle.btf_relocate.specs.TargetIndex.{IndexesTable};
 ghost use Rattle.vbtf.specs.IndexFinding.{FindsIndexPlace, IsNamedAt, EndsFindingIndexed, EndsFindingIn, AnswersIndexed, IsUnaskable};
 ghost use Rattle.vbtf.specs.Status.{KeepsHandle};
 
@@ -14,7 +15,7 @@ use crate::handle::Handle;
 use crate::opened::Opened;
 use crate::taken::take_loan;
 use btf::{Btf, BtfError, BtfKind};
-use btf_relocate::Target;
+use btf_relocate::TargetIndex;
 use btf_table::name_bytes;
 use std::alloc::Global;
 
@@ -67,8 +68,7 @@ fn find_in(
     let Some(index) = &opened.index else {
         return CLOSED;
     };
-    let target = Target::with_index(&opened.btf, index);
-    match find(alloc, &target, name, kind) {
+    match find(alloc, &opened.btf, index, name, kind) {
         None => INVALID_ARGUMENT,
         Some(Ok(found)) => {
             *id = found;
@@ -79,8 +79,15 @@ fn find_in(
 }
 
 /// The id of a kind and a name; None if the name is empty or not UTF-8, or no kind has the number.
-fn find(alloc: Global, target: &Target<'_>, name: &[u8], kind: u32) -> Option<Result<u32, BtfError>>
-    ensures { AnswersIndexed name.now kind target.now result }
+fn find(
+    alloc: Global,
+    table: &Btf,
+    index: &TargetIndex,
+    name: &[u8],
+    kind: u32,
+) -> Option<Result<u32, BtfError>>
+    requires { IndexesTable table.now index.now }
+    ensures { AnswersIndexed name.now kind table.now result }
 {
     let Ok(text) = str::from_utf8(name) else {
         return None;
@@ -91,7 +98,7 @@ fn find(alloc: Global, target: &Target<'_>, name: &[u8], kind: u32) -> Option<Re
     let Ok(kind) = BtfKind::try_from(kind) else {
         return None;
     };
-    Some(match place_of(target, name, kind) {
+    Some(match place_of(table, index, name, kind) {
         Some(id) => Ok(id),
         None => no_such_name(alloc, text),
     })
@@ -108,12 +115,12 @@ fn no_such_name(alloc: Global, name: &str) -> Result<u32, BtfError>
 }
 
 /// The least id above 0 of a type with this kind and name.
-fn place_of(target: &Target<'_>, name: &[u8], kind: BtfKind) -> Option<u32>
-    requires { name.now ≢ [] }
-    ensures { FindsIndexPlace target.now (plain.kind kind) name.now result }
+fn place_of(table: &Btf, index: &TargetIndex, name: &[u8], kind: BtfKind) -> Option<u32>
+    requires indexed { IndexesTable table.now index.now }
+    requires named { name.now ≢ [] }
+    ensures { FindsIndexPlace table.now (plain.kind kind) name.now result }
 {
-    let table = target.table();
-    for id in target.candidates(name, kind) {
+    for id in index.candidates(table, name, kind) {
         if is_named_at(table, *id, name, kind) {
             return Some(*id);
         }

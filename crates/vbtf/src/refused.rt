@@ -62,7 +62,9 @@ fn error_place(error: RelocationError) -> u32
         RelocationError::BadAccessSize => 25,
         RelocationError::BadLdImm64 => 26,
         RelocationError::NotPatchable => 27,
-        RelocationError::OutOfMemory => 28,
+        RelocationError::TooManyCandidates => 28,
+        RelocationError::TooManyMembers => 29,
+        RelocationError::OutOfMemory => 30,
     }
 }
 
@@ -84,8 +86,8 @@ fn error_detail(error: RelocationError) -> u32
 
 /// The error at a position in `RelocationError`, from 1 on, with this field. None if there is no such position.
 pub(crate) fn error_at(place: u32, detail: u32) -> Option<RelocationError>
-    ensures { MatchOption result ((place < 1) ⊎ (28 < place))
-        (λ error. (1 ≤ place) × (place ≤ 28) × (relocation_place error ≡ place)) }
+    ensures { MatchOption result ((place < 1) ⊎ (30 < place))
+        (λ error. (1 ≤ place) × (place ≤ 30) × (relocation_place error ≡ place)) }
 {
     let type_id = detail;
     let error = match place {
@@ -116,7 +118,9 @@ pub(crate) fn error_at(place: u32, detail: u32) -> Option<RelocationError>
         25 => RelocationError::BadAccessSize,
         26 => RelocationError::BadLdImm64,
         27 => RelocationError::NotPatchable,
-        28 => RelocationError::OutOfMemory,
+        28 => RelocationError::TooManyCandidates,
+        29 => RelocationError::TooManyMembers,
+        30 => RelocationError::OutOfMemory,
         _ => return None,
     };
     Some(error)

@@ -54,9 +54,9 @@ pub struct ViewParts {
 /// Finds the sections of a blob and the places of its records. `order` is the byte order: 0 for little, 1 for big, 2
 /// for the order of the magic at the beginning of the blob.
 ///
-/// Status 1, 2 or 4 with the first error, 100 if there are fewer places than types, and 102 if the order is another
-/// number. A type section of n bytes needs at most n / 12 + 1 places. After an error `parts` is unchanged, and the
-/// places have no meaning.
+/// Status 1, 2 or 4 with the first error, 100 exactly if the blob represents a table with more types than places, and 102
+/// if the order is another number. A type section of n bytes needs at most n / 12 + 1 places. After an error `parts` is
+/// unchanged, and the places have no meaning.
 #[unsafe(no_mangle)]
 pub extern "C" fn vbtf_raw_view_index(
     data: &[u8],

@@ -135,7 +135,7 @@ impl Table {
         })
     }
 
-    /// The alignment of a type in bytes, by libbpf's rule; `docs/LAYOUT.md` has it.
+    /// The alignment of a type in bytes, by libbpf's rule; `docs/TABLES.md` has it.
     ///
     /// ```
     /// use vbtf::{Endianness, Error, Table};

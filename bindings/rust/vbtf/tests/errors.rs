@@ -38,7 +38,15 @@ fn errors_have_the_library_s_texts() {
             "type 3 has no name",
         ),
         (
+            Error::RelocationRefused { reason: 28, detail: 0, name_offset: 0, index: 0 },
+            "the target has more than 256 candidates",
+        ),
+        (
             Error::RelocationRefused { reason: 29, detail: 0, name_offset: 0, index: 0 },
+            "two types have more than 1048576 pairs of members",
+        ),
+        (
+            Error::RelocationRefused { reason: 31, detail: 0, name_offset: 0, index: 0 },
             "a relocation has an error",
         ),
         (

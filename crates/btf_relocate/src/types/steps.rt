@@ -18,6 +18,9 @@ use btf_relocate_model::{Pair, RelocationError, Rule};
 use btf_table::Btf;
 use std::alloc::Global;
 
+/// The maximum number of pairs of members of two STRUCTs or UNIONs.
+const MEMBER_PAIR_LIMIT: usize = 1 << 20;
+
 /// What decides whether two types are as a rule asks.
 #[derive(Debug, Drop)]
 pub enum Step<'t> {
@@ -128,14 +131,9 @@ fn exact_step<'t>(
     one: &'t BtfType,
     other: &'t BtfType,
 ) -> Result<Step<'t>, RelocationError>
-    ensures { GivesBy step_view (by_kinds (model.exact_step local.now target.now is_pointee)
+    ensures { GivesBy step_view (model.exact_step local.now target.now is_pointee
         (record_of one.now) (record_of other.now)) result }
 {
-    // Only a use of the kinds proves that the info words have them.
-    let _ = (one.kind(), other.kind());
-    if let (BtfType::FuncProto(t), BtfType::FuncProto(u)) = (one, other) {
-        return Ok(prototypes(is_pointee, t, u));
-    }
     if !names_match(local, target, one.name_offset(), other.name_offset())? {
         return Ok(Step::Ends(false));
     }
@@ -147,8 +145,20 @@ fn exact_step<'t>(
             let is_alike = enumerators_match(alloc, local, target, one, other)?;
             Ok(Step::Ends(is_alike))
         }
-        _ => Ok(matches_step(is_pointee, one, other)),
+        _ => few_members(matches_step(is_pointee, one, other)),
     }
+}
+
+/// A step, which is refused if it has too many members to compare.
+fn few_members(step: Step<'_>) -> Result<Step<'_>, RelocationError>
+    ensures { GivesBy step_view (model.few_members (step_view step.entry)) result }
+{
+    if let Step::EachMember(members, others) = &step
+        && members.len().saturating_mul(others.len()) > MEMBER_PAIR_LIMIT
+    {
+        return Err(RelocationError::TooManyMembers);
+    }
+    Ok(step)
 }
 
 /// The size of an ENUM or ENUM64; `None` for another type.
@@ -184,6 +194,7 @@ fn matches_step<'t>(is_pointee: bool, one: &'t BtfType, other: &'t BtfType) -> S
             }
             Step::GoesOn(pair(is_pointee, array.element_type, other_array.element_type))
         }
+        (BtfType::FuncProto(t), BtfType::FuncProto(u)) => prototypes(is_pointee, t, u),
         _ => step_of_declared(is_pointee, one, other),
     }
 }

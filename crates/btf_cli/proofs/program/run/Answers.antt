@@ -1,5 +1,5 @@
-use Rattle.btf_cli.proofs.Asking.{lines_alike, declined_alike, written_alike}
-use Rattle.btf_cli.proofs.Outcomes.{of_ok, of_err, is_not_2}
+use Rattle.btf_cli.proofs.Asking.{lines_alike, declined_alike, failed_alike, written_alike}
+use Rattle.btf_cli.proofs.Outcomes.{of_ok, of_err, fails_by_some, is_not_2}
 use Rattle.btf_cli.proofs.program.run.Goals as goal
 
 pub returns-in_default-clause-refused : goal.returns-in_default-clause-refused
@@ -19,3 +19,12 @@ pub returns-clause-written : goal.returns-clause-written
 returns-clause-written g c = λ line asks zero.
     let same = lines_alike c.args.words.now c.in-Some.line line c.in-Some.ensures.some asks in
     written_alike c.in-Some.line line _ _ (g.R.Read.remaining c.args.input.now) same (of_ok c.carry_out-outcome.result c.carry_out-outcome.ensures.written (c.status_of.ensures.ok.0 zero))
+
+pub returns-clause-failed : goal.returns-clause-failed
+returns-clause-failed g c = λ line asks one.
+    let same = lines_alike c.args.words.now c.in-Some.line line c.in-Some.ensures.some asks in
+    failed_alike c.in-Some.line line (g.R.Read.remaining c.args.input.now) (g.W.Write.contents c.args.out.now) _ same
+    (fails_by_some c.in-Some.line (g.R.Read.remaining c.args.input.now) (g.W.Write.contents c.args.out.now) _ c.carry_out-outcome.result c.status_of.result c.status_of.ensures.ok c.carry_out-outcome.ensures.failed one)
+
+pub returns-in_default-clause-failed : goal.returns-in_default-clause-failed
+returns-in_default-clause-failed g c = λ line asks one. absurd (c.in_default.ensures.none line asks)

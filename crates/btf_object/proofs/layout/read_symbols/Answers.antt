@@ -25,8 +25,8 @@ loop-index-preserved g c = λ name.
           ap (λ m. offsets_of m name) w.map-is ∙ updated
           ∙ symbol_kept (bytes_eq key name) w.in-Some.value (get_by_text c.loop-index.map name) rest (c.loop-index.invariant name)
           ∙ ap (λ (k : List ℕ). if bytes_eq k name then Some w.in-Some.value else rest) w.in_ok-to_string.ensures.ok
-          ∙ sym (symbol_push o i w.in-Some.name.now w.in-Some.value name w.in-Some.ensures.some)
+          ∙ sym (symbol_push is_read_symbol value o i w.in-Some.name.now w.in-Some.value name w.in-Some.ensures.some)
       | in_default w ↦
           let lt : i < length (symbols o) = omega (arith, c.loop-index-test.true, c.symbol_count-index-end.ensures) in
-          ap (λ m. offsets_of m name) w.map-is ∙ c.loop-index.invariant name ∙ sym (symbol_pass o i name lt w.in_default.ensures.none)
+          ap (λ m. offsets_of m name) w.map-is ∙ c.loop-index.invariant name ∙ sym (symbol_pass is_read_symbol value o i name lt w.in_default.ensures.none)
     ]

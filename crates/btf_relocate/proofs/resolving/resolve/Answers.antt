@@ -4,7 +4,7 @@ use Rattle.std.specs.Global.{Vec}
 use Rattle.btf_model.specs.Table.{Table}
 use Rattle.btf_model.specs.declared.endianness.Endianness.{Endianness}
 use Rattle.btf_relocate_model.specs.Resolution as model
-use Rattle.btf_relocate_model.specs.Resolution.{TablePair, Question, question, answers, candidate_answer, resolution, resolved_by, remaining, is_local}
+use Rattle.btf_relocate_model.specs.Resolution.{TablePair, Question, question, table_answers, candidate_answer, resolution, resolved_by, remaining, is_local}
 use Rattle.btf_relocate_model.specs.declared.answer.Answer.{Answer}
 use Rattle.btf_relocate_model.specs.declared.error.RelocationError.TheVariants.{OutOfMemory}
 use Rattle.btf_relocate_model.specs.declared.resolved.Resolved.{Resolved}
@@ -32,7 +32,7 @@ returns-in_err-answer c =
     (elim known as (λ x. (e ≡ OutOfMemory) ⊎ (resolution g c.args.candidates.now.items words ≡ Err e)) [
       | inl memory ↦ inl memory
       | inr is ↦ inr (refused g c.args.candidates.now.items words q c.in_ok-expected.expected asked e
-          (ap (λ (cs : List ℕ). answers (candidate_answer g q.kind q.subject) None cs) (sym c.as_slice.ensures.value) ∙ is))
+          (ap (λ (cs : List ℕ). table_answers (candidate_answer g q.kind q.subject) None cs) (sym c.as_slice.ensures.value) ∙ is))
     ])
 
 pub returns : goal.returns
@@ -49,7 +49,7 @@ returns c =
       expects = sym c.in_ok-expected.ensures;
     } in
     let found : Option Answer × List ℕ = (c.in_ok-answer.answer, c.in_ok-answer.matching.items) in
-    let known : answers (candidate_answer g q.kind q.subject) None c.as_slice.result.now ≡ Ok found =
+    let known : table_answers (candidate_answer g q.kind q.subject) None c.as_slice.result.now ≡ Ok found =
     c.in_ok-answer.ensures in
     let left : remaining c.args.candidates.now.items found.0 found.1 ≡ c.if-is_some.candidates.items = elim c.if-is_some.branch [
       | then-is_some w ↦ remain_some found.0 c.is_some.result c.args.candidates.now.items found.1 c.if-is_some.candidates.items c.is_some.ensures w.if-is_some.true (ap (λ (v : Vec ℕ). v.items) w.candidates-is)
@@ -59,6 +59,6 @@ returns c =
     ∙ ap (λ (t : Table). resolved_by g.local t q.kind c.validates-validates.result c.in_ok-expected.expected found.0) c.table-2.ensures
     ∙ ap (λ (b : Bool). resolved_by g.local g.target q.kind b c.in_ok-expected.expected found.0) c.validates-validates.ensures) in
     answered_by g c.args.candidates.now.items words q c.in_ok-expected.expected asked found
-    (ap (λ (cs : List ℕ). answers (candidate_answer g q.kind q.subject) None cs) (sym c.as_slice.ensures.value) ∙ known)
+    (ap (λ (cs : List ℕ). table_answers (candidate_answer g q.kind q.subject) None cs) (sym c.as_slice.ensures.value) ∙ known)
     ∙ ap (λ (r : Resolved). let p : Resolved × List ℕ = (r, remaining c.args.candidates.now.items found.0 found.1) in Ok p) result
     ∙ ap (λ (cs : List ℕ). let p : Resolved × List ℕ = (c.resolve_by.result, cs) in Ok p) left

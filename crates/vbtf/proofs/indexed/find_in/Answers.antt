@@ -16,13 +16,13 @@ returns-in-Some-Ok-clause-found c some utf8 full k is =
     inl (inl (
       refl,
       subst (λ (p : Table × Kind × Result ℕ BtfError). MeetsOrNoMemory (λ (n : ℕ). n) p.2 (FindsIndexed p.0 p.1 c.args.name.now))
-          (λ i. (c.with_index-target.ensures i, same i, c.in-Some-Ok.field-0-is i)) m.4,
+          (λ i. (c.args.opened.now.btf, same i, c.in-Some-Ok.field-0-is i)) m.4,
     ))
 
-pub returns-clause-found : goal.returns-clause-found
-returns-clause-found c some utf8 full k is =
+pub returns-in-Some-Err-clause-found : goal.returns-in-Some-Err-clause-found
+returns-in-Some-Err-clause-found c some utf8 full k is =
     let m = c.in-Some-Err.ensures in
     let same : m.2 ≡ k = same_kind m.2 k (sym m.3 ∙ is) in
     ends_refused c.report.result c.args.id.now c.report.new.fault (refusal_of c.in-Some-Err.error) (FindsIndexed c.args.opened.now.btf k c.args.name.now)
     (subst (λ (p : Table × Kind × Result ℕ BtfError). MeetsOrNoMemory (λ (n : ℕ). n) p.2 (FindsIndexed p.0 p.1 c.args.name.now))
-    (λ i. (c.with_index-target.ensures i, same i, c.in-Some-Err.field-0-is i)) m.4) c.report.ensures
+    (λ i. (c.args.opened.now.btf, same i, c.in-Some-Err.field-0-is i)) m.4) c.report.ensures

@@ -12,18 +12,18 @@ returns-then-is_named_at c =
     let ids = c.candidates-id-items.result.now in
     let i = c.loop-id.id-index in
     let id : ℕ = get_or ids i 0 in
-    first_is c.args.target.now c.args.name.now c.args.kind ids c.requires c.candidates-id-items.ensures i id (slice_get-get_or ids i 0 c.loop-id-test.true)
-    (subst (λ (t : Table). IsNamedAt t (kind c.args.kind) c.args.name.now id) c.table-table.ensures (c.is_named_at.ensures.0 c.if-is_named_at.true)) c.loop-id.invariant
+    first_is c.args.table.now c.args.name.now c.args.kind ids c.requires.named c.candidates-id-items.ensures i id (slice_get-get_or ids i 0 c.loop-id-test.true)
+    (c.is_named_at.ensures.0 c.if-is_named_at.true) c.loop-id.invariant
 
 pub loop-id-preserved : goal.loop-id-preserved
 loop-id-preserved c =
     let ids = c.candidates-id-items.result.now in
     let i = c.loop-id.id-index in
     let id : ℕ = get_or ids i 0 in
-    one_more c.args.target.now (kind c.args.kind) c.args.name.now ids i id (slice_get-get_or ids i 0 c.loop-id-test.true)
-    (λ h. true≢false (sym (c.is_named_at.ensures.1 (subst (λ (t : Table). IsNamedAt t (kind c.args.kind) c.args.name.now id) (sym c.table-table.ensures) h)) ∙ c.if-is_named_at.false)) c.loop-id.invariant
+    one_more c.args.table.now (kind c.args.kind) c.args.name.now ids i id (slice_get-get_or ids i 0 c.loop-id-test.true)
+    (λ h. true≢false (sym (c.is_named_at.ensures.1 h) ∙ c.if-is_named_at.false)) c.loop-id.invariant
 
 pub returns : goal.returns
 returns c =
     let ids = c.candidates-id-items.result.now in
-    none_is c.args.target.now c.args.name.now c.args.kind ids c.requires c.candidates-id-items.ensures (λ m x lt. c.loop-id.invariant m x (omega (arith, lt, c.loop-id-test.false)))
+    none_is c.args.table.now c.args.name.now c.args.kind ids c.requires.named c.candidates-id-items.ensures (λ m x lt. c.loop-id.invariant m x (omega (arith, lt, c.loop-id-test.false)))

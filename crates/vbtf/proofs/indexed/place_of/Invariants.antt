@@ -5,4 +5,4 @@ use Rattle.vbtf.specs.IndexFinding.{IsNamedAt}
 use Rattle.vbtf.proofs.indexed.place_of.Given as goal
 
 abbrev pub invariant-loop-id : goal.invariant-loop-id
-invariant-loop-id l = (n x : ℕ) → n < l.id-index → slice_get l.id-items n ≡ Some x → IsNamedAt l.target (kind l.kind) l.name x → ⊥
+invariant-loop-id l = (n x : ℕ) → n < l.id-index → slice_get l.id-items n ≡ Some x → IsNamedAt l.table (kind l.kind) l.name x → ⊥

@@ -1,4 +1,4 @@
-use Rattle.std.proofs.Common.{◌≡◌, sym}
+use Rattle.std.proofs.Common.{sym}
 use Rattle.btf_model.specs.Refusal.{Refusal}
 use Rattle.btf_model.proofs.Comparisons.{same_ok}
 use Rattle.btf_records.specs.BtfType.{record_of, fallback_of}

@@ -1,4 +1,4 @@
-use Rattle.std.proofs.Common.{◌≡◌, sym, refl, ◌∙◌, true}
+use Rattle.std.proofs.Common.{sym, refl}
 use Rattle.btf_model.specs.Refusal.{Refusal}
 use Rattle.btf_model.proofs.Comparisons.{same_ok}
 use Rattle.btf_rewrite_model.specs.Made.{record_at}
