@@ -7,6 +7,8 @@ pub mod Lengths
 pub mod Cuts
 pub mod Indexes
 pub mod Tails
+pub mod Words
+pub mod There
 pub mod Arrays
 pub mod Walking
 pub mod Filled

@@ -2,9 +2,12 @@ pub mod Places
 pub mod Header
 pub mod Index
 pub mod Record
+pub mod Words
+pub mod TypeRef
 pub mod Forms
 pub mod Items
 pub mod Many
 pub mod Extent
 pub mod View
 pub mod Finding
+pub mod TableRef

@@ -35,7 +35,7 @@ fn item_words(kind: BtfKind) -> usize
 
 /// The number of words of a record of this kind after the third. There is no branch on the kind.
 #[inline(always)]
-fn words_after(kind: BtfKind, vlen: usize) -> usize
+pub(crate) fn words_after(kind: BtfKind, vlen: usize) -> usize
     requires { vlen < 2 ^ 16 }
     ensures value { result ≡ tail_words (kinds.kind kind) vlen }
     ensures small { result < 2 ^ 18 }

@@ -152,7 +152,8 @@ pub(crate) fn most_head_at(types: &[u8], place: u32, endianness: Endianness) -> 
 /// The bytes after the first three words of the record at a place; none if the place is past the section.
 #[inline(always)]
 pub(crate) fn tail_at(types: &[u8], place: u32, endianness: Endianness) -> &[u8]
-    ensures { (r : Record) → IsRecordAt endianness types.now place r
+    ensures bytes { result.now ≡ drop (place + 12) types.now }
+    ensures tail { (r : Record) → IsRecordAt endianness types.now place r
         → HasTail endianness result.now r }
 {
     let _ = endianness;
@@ -172,7 +173,7 @@ pub(crate) struct Parts<'a> {
 
 /// The kind in the info word of a head.
 #[inline(always)]
-fn kind_of_head(head: &Head) -> Option<BtfKind>
+pub(crate) fn kind_of_head(head: &Head) -> Option<BtfKind>
     ensures { option_map code.kind result ≡ kind_of head.now.info }
 {
     let Ok(kind) = BtfKind::try_from(head.kind()) else {

@@ -1,6 +1,6 @@
 //! A view of a table.
 
-ghost use Rattle.std.specs.Prelude.{◌≡◌, List};
+ghost use Rattle.std.specs.Prelude.{◌≡◌, List, slice_get};
 ghost use Rattle.btf_model.specs.Record.{Record};
 ghost use Rattle.btf_model.specs.Walk.{Resolves, HasSize};
 ghost use Rattle.std.specs.Option.{option_map};
@@ -12,12 +12,14 @@ ghost use Rattle.btf_view.specs.Forms.{ListsItems, ListsTypes};
 ghost use Rattle.btf_view.specs.Items.{ItemsOf, ListsMembersFrom, entries, members, params, variants};
 ghost use Rattle.btf_view.specs.Many.{FillsResolved, FillsSizes};
 ghost use Rattle.btf_view.specs.Record.{FindsHead, FindsParts};
+ghost use Rattle.btf_view.specs.TypeRef.{record_of_words};
 ghost use Rattle.btf_view.specs.View.{Shows};
 
 use crate::filling::{fill_all_members, fill_items, fill_types};
 use crate::finding::{Lookup, find_in};
 use crate::forms::{Entry, Member, Param, TypeWords, Variant};
 use crate::record::{Parts, head_at, parts_at};
+use crate::record_words::RecordWords;
 use crate::sizing::{fill_sizes, size_of};
 use crate::text::name_at;
 use crate::walk::{fill_resolved, resolve_from};
@@ -48,6 +50,17 @@ impl<'a> View<'a> {
         match self.places.get(type_id as usize) {
             Some(place) => Ok(head_at(self.types, *place, self.endianness)),
             None => Err(BtfError::UnknownBtfType { type_id }),
+        }
+    }
+
+    /// The record of an id; None if there is no such type.
+    pub fn record(&self, type_id: u32) -> Option<RecordWords<'a>>
+        ensures { (records : List Record) → Shows self.now records
+            → option_map record_of_words result ≡ slice_get records type_id }
+    {
+        match self.places.get(type_id as usize) {
+            Some(place) => RecordWords::at(self.types, *place, self.endianness),
+            None => None,
         }
     }
 

@@ -22,4 +22,4 @@ returns-clause-items c r p =
     let either = members_by_number c.kind.result h.kind (ap (slice_get model.kinds) c.kind.ensures ∙ h.has) (sym c.has_members.ensures ∙ c.if-not-has_members.false) in
     let has : (kind_of r.info ≡ Some model.Struct) ⊎ (kind_of r.info ≡ Some model.Union) =
     elim either [ inl s ↦ inl (kind_read head r h ∙ ap (λ (k : Kind). Some k) s) | inr u ↦ inr (kind_read head r h ∙ ap (λ (k : Kind). Some k) u) ] in
-    struct_appended c.args.endianness c.tail_at-tail.result.now head.info c.args.at c.append_items.result r c.args.out.now c.append_items.new.out has (read_info head r h either) (c.tail_at-tail.ensures r p) c.append_items.ensures.items
+    struct_appended c.args.endianness c.tail_at-tail.result.now head.info c.args.at c.append_items.result r c.args.out.now c.append_items.new.out has (read_info head r h either) (c.tail_at-tail.ensures.tail r p) c.append_items.ensures.items

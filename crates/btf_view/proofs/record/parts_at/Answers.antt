@@ -15,4 +15,4 @@ returns-in_default c r is =
 pub returns : goal.returns
 returns c r is =
     let head = c.head_at-head.ensures r is in
-    record { kind_is = ap kind_of (sym head.info) ∙ sym c.in-Some.ensures; info_is = head.info; tail_is = c.tail_at.ensures r is }
+    record { kind_is = ap kind_of (sym head.info) ∙ sym c.in-Some.ensures; info_is = head.info; tail_is = c.tail_at.ensures.tail r is }

@@ -1,0 +1,148 @@
+//! A table that is read, whatever holds it.
+
+ghost use Rattle.std.specs.Prelude.{◌≡◌, length, slice_get};
+ghost use Rattle.std.specs.Option.{option_map};
+ghost use Rattle.btf_model.specs.Blob.{IsTable};
+ghost use Rattle.btf_model.specs.Text.{bytes_at};
+ghost use Rattle.btf_model.specs.Walk.{Resolves};
+ghost use Rattle.btf_plain.specs.Error.{Meets};
+ghost use Rattle.btf_view.specs.Index.{IsIndexed};
+ghost use Rattle.btf_view.specs.TypeRef.{record_in};
+
+use crate::indexing::Sections;
+use crate::type_ref::TypeRef;
+use crate::view::View;
+use btf_plain::{BtfError, Endianness, Float};
+use btf_records::BtfType;
+use btf_table::{Btf, name_bytes, type_count};
+use std::marker::Model;
+
+/// A table in the bytes of a view, with three values of its header.
+#[derive(Clone, Copy)]
+struct ViewedTable<'a> {
+    view: View<'a>,
+    magic: u16,
+    version: u8,
+    flags: u8,
+}
+
+/// What holds a table.
+#[derive(Clone, Copy)]
+enum Source<'a> {
+    /// A table that was parsed.
+    Parsed(&'a Btf),
+    /// A blob.
+    Viewed(ViewedTable<'a>),
+}
+
+/// A table that is read: one that was parsed, or a blob with the places of its records. In contracts it is the table.
+#[derive(Drop)]
+pub struct TableRef<'a> {
+    source: Source<'a>,
+}
+
+impl<'a> Model for TableRef<'a> {
+    ghost use Rattle.btf_model.specs.Table.{Table};
+    ghost use Rattle.btf_view.specs.TableRef.{IsShown, table_in};
+
+    ghost Value = { Table };
+
+    ghost view = { λ t. table_in t.source };
+
+    ghost invariant = { λ t. IsShown t.source };
+}
+
+impl<'a> TableRef<'a> {
+    /// A table that was parsed.
+    pub fn of_table(table: &'a Btf) -> TableRef<'a>
+        ensures { result ≡ table.now }
+    {
+        TableRef {
+            source: Source::Parsed(table),
+        }
+    }
+
+    /// The table of a blob, whose words are in this byte order, with what [`index`](crate::index) found in it.
+    pub fn of_blob(
+        data: &'a [u8],
+        endianness: Endianness,
+        sections: &Sections,
+        places: &'a [u32],
+    ) -> TableRef<'a>
+        requires { IsIndexed endianness «data».now places.now sections.now }
+        ensures { IsTable endianness «data».now result }
+    {
+        let (types, strings) = (sections.types_at, sections.strings_at);
+        TableRef {
+            source: Source::Viewed(ViewedTable {
+                view: View {
+                    endianness,
+                    types: &data[types..types + sections.types_len],
+                    strings: &data[strings..strings + sections.strings_len],
+                    places: &places[..sections.count],
+                },
+                magic: sections.magic,
+                version: sections.version,
+                flags: sections.flags,
+            }),
+        }
+    }
+
+    /// The byte order of the words.
+    pub fn endianness(&self) -> Endianness
+        ensures { result ≡ self.now.order }
+    {
+        match &self.source {
+            Source::Parsed(table) => table.endianness(),
+            Source::Viewed(table) => table.view.endianness,
+        }
+    }
+
+    /// The number of types, with the type of id 0.
+    pub fn type_count(&self) -> u32
+        ensures { result ≡ length self.now.records }
+    {
+        match &self.source {
+            Source::Parsed(table) => type_count(table),
+            Source::Viewed(table) => table.view.places.len() as u32,
+        }
+    }
+
+    /// The type of an id; None if there is no such type.
+    pub fn type_at(&self, type_id: u32) -> Option<TypeRef<'a>>
+        ensures { option_map record_in result ≡ slice_get self.now.records type_id }
+    {
+        match &self.source {
+            Source::Parsed(table) => match table.type_by_id(type_id) {
+                Ok(btf_type) => Some(TypeRef::Parsed(btf_type)),
+                Err(_) => None,
+            },
+            Source::Viewed(table) => match table.view.record(type_id) {
+                Some(words) => Some(TypeRef::Viewed(words)),
+                None => None,
+            },
+        }
+    }
+
+    /// The id of the type that an id resolves to, as `Btf::resolve_type` does.
+    pub fn resolve(&self, type_id: u32) -> Result<u32, BtfError>
+        ensures { Meets (λ id. id) result (Resolves self.now.records type_id) }
+    {
+        match &self.source {
+            Source::Parsed(table) => table.resolve_type(type_id),
+            Source::Viewed(table) => table.view.resolve(type_id),
+        }
+    }
+
+    /// The bytes of the name at a string offset, up to the first zero byte; they need not be UTF-8. None if there is no
+    /// zero byte at the offset or after it.
+    pub fn name(&self, offset: u32) -> Option<&'a [u8]>
+        ensures { option_map (λ b. b.now) result ≡ bytes_at self.now.strings offset }
+    {
+        match &self.source {
+            // `name_bytes` reads the name of a type, so ask for the name of one that has this offset.
+            Source::Parsed(table) => name_bytes(table, &BtfType::Float(Float::new(offset, 0))),
+            Source::Viewed(table) => table.view.name(offset),
+        }
+    }
+}
