@@ -2,28 +2,27 @@
 
 use crate::words::Words;
 use btf_elf::{Object, SectionHeader, Symbol};
+use std::alloc::AllocError;
 use std::fmt::Write;
 
 /// Writes the numbers of a section, in the order of the columns of `readelf -SW`, and its name in hexadecimal digits.
-fn write_section(text: &mut String, it: &SectionHeader, name: &str) -> anyhow::Result<()> {
+fn write_section(text: &mut String, it: &SectionHeader, name: &str) -> Result<(), AllocError> {
     let (kind, offset, size, each) = (it.kind, it.offset, it.size, it.entry_size);
     let (flags, link, info, alignment) = (it.flags, it.link, it.info, it.alignment);
     write!(
         text,
         "{kind} {offset} {size} {each} {flags} {link} {info} {alignment} {name};"
-    )?;
-    Ok(())
+    )
 }
 
 /// Writes the numbers of a symbol, in the order of the columns of `readelf -sW`, and its name in hexadecimal digits.
-fn write_symbol(text: &mut String, it: &Symbol, name: &str) -> anyhow::Result<()> {
+fn write_symbol(text: &mut String, it: &Symbol, name: &str) -> Result<(), AllocError> {
     let (value, size, kind) = (it.value, it.size, it.kind);
     let (binding, other, section) = (it.binding, it.other, it.section);
     write!(
         text,
         "{value} {size} {kind} {binding} {other} {section} {name};"
-    )?;
-    Ok(())
+    )
 }
 
 /// `elf_sections FILE`: the order, the machine and the kind of an object; then each section.

@@ -12,6 +12,7 @@ mod records;
 mod relocation;
 mod rewriting;
 mod symbols;
+mod viewed;
 mod words;
 
 use crate::words::Words;
@@ -35,7 +36,8 @@ fn answer_of_object(name: &str, words: &mut Words<'_>) -> anyhow::Result<String>
         "sanitized" => objects::sanitized(words),
         "finalized" => objects::finalized(words),
         "prepared" => objects::prepared(words),
-        _ => Ok("no such call".to_string(words.alloc)?),
+        // No row expects it.
+        _ => Ok(String::new(words.alloc)),
     }
 }
 
@@ -54,6 +56,7 @@ fn answer(alloc: Global, line: &str) -> anyhow::Result<String> {
         "rewrite_by_call" => rewriting::by_call(&mut words),
         "asked" => rewriting::asked(&mut words),
         "ksyms" => symbols::step(&mut words),
+        "viewed" => viewed::types(&mut words),
         name => answer_of_object(name, &mut words),
     }
 }

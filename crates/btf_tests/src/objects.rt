@@ -7,6 +7,7 @@ use btf_object::{
     FillPolicy, Kernel, ObjectLayout, TableReader, ksyms_of, sanitize_finalized,
     sanitize_object_with,
 };
+use std::alloc::AllocError;
 use std::fmt::Write;
 use std::hash::{BuildHasherDefault, FoldHasher};
 
@@ -26,7 +27,7 @@ fn named(word: &str) -> Option<&str> {
 }
 
 /// Writes the features of a kernel.
-fn write_features(text: &mut String, kernel: &Kernel) -> anyhow::Result<()> {
+fn write_features(text: &mut String, kernel: &Kernel) -> Result<(), AllocError> {
     for (feature, name) in &FEATURES {
         if kernel.has(*feature) {
             write!(text, "{name} ")?;
@@ -39,10 +40,11 @@ fn write_features(text: &mut String, kernel: &Kernel) -> anyhow::Result<()> {
 pub fn kernel(words: &mut Words<'_>) -> anyhow::Result<String> {
     let bytes = words.bytes()?;
     let mut text = String::new(words.alloc);
-    match Kernel::of_version(str::from_utf8(&bytes)?) {
-        Some(kernel) => write_features(&mut text, &kernel)?,
-        None => text.push_str("no version")?,
-    }
+    let written = match Kernel::of_version(str::from_utf8(&bytes)?) {
+        Some(kernel) => write_features(&mut text, &kernel),
+        None => text.push_str("no version"),
+    };
+    written?;
     Ok(text)
 }
 
@@ -77,22 +79,23 @@ pub fn layout(words: &mut Words<'_>) -> anyhow::Result<String> {
     let (part, name) = (words.word(), words.word());
     let text = match part {
         "section" => match layout.sections.get(name) {
-            Some((index, size)) => format!(in words.alloc; "{size} in {index:?}")?,
-            None => "none".to_string(words.alloc)?,
+            Some((index, size)) => format!(in words.alloc; "{size} in {index:?}"),
+            None => "none".to_string(words.alloc),
         },
-        _ => format!(in words.alloc; "{:?}", layout.symbols.get(name))?,
+        _ => format!(in words.alloc; "{:?}", layout.symbols.get(name)),
     };
-    Ok(text)
+    Ok(text?)
 }
 
 /// `ksyms_of ORDER TABLE PLACEHOLDER`: the ids of the kernel's symbols.
 pub fn ksyms_ids(words: &mut Words<'_>) -> anyhow::Result<String> {
     let table = words.table()?;
     let ids = ksyms_of(&table, named(words.word()))?;
-    Ok(match ids {
-        Some(ids) => format!(in words.alloc; "{} {:?}", ids.datasec_id, ids.placeholder_id)?,
-        None => "none".to_string(words.alloc)?,
-    })
+    let text = match ids {
+        Some(ids) => format!(in words.alloc; "{} {:?}", ids.datasec_id, ids.placeholder_id),
+        None => "none".to_string(words.alloc),
+    };
+    Ok(text?)
 }
 
 /// `sanitized FILE VERSION PLACEHOLDER`: the object for the kernel of a version.

@@ -27,11 +27,7 @@ impl<'a> RecordWords<'a> {
     ghost use Rattle.btf_view.specs.TypeRef.{record_of_words};
 
     /// The record at a place of a type section.
-    pub(crate) fn at(
-        types: &'a [u8],
-        place: u32,
-        endianness: Endianness,
-    ) -> Option<RecordWords<'a>>
+    pub(crate) fn at(types: &'a [u8], place: u32, endianness: Endianness) -> Option<RecordWords<'a>>
         ensures { (r : Record) → IsRecordAt endianness types.now place r
             → option_map record_of_words result ≡ Some r }
     {

@@ -141,7 +141,9 @@ fn word_of(btf_type: &BtfType, index: usize) -> Option<u32>
         BtfType::Int(t) => [t.word()].get(index).copied(),
         BtfType::Array(t) => {
             let array = t.array();
-            [array.element_type, array.index_type, array.len].get(index).copied()
+            [array.element_type, array.index_type, array.len]
+                .get(index)
+                .copied()
         }
         BtfType::Struct(t) => word_in(t.members(), index),
         BtfType::Union(t) => word_in(t.members(), index),
