@@ -1,7 +1,7 @@
 -- Loops of needs in which each prototype is behind a pointer.
--- Source: C11, 6.2.5 (a type is an object type or a function type), 6.7.2.1 (no member has a function type), 6.7.6.2 (no
--- element has one) and 6.7.6.3 (no result has one, and a parameter of a function type becomes a pointer). So C uses a
--- function by value only in a typedef, and no type that the function uses can lead back to it.
+-- Source: C11, 6.2.5 (a type is an object type or a function type), 6.7.2.1 (no member has a function type), 6.7.6.2
+-- (no element has one) and 6.7.6.3 (no result has one, and a parameter of a function type becomes a pointer). So C uses
+-- a function by value only in a typedef, and no type that the function uses can lead back to it.
 use Rattle.std.specs.Prelude.{◌≡◌, ℕ, not, Bool, false, List, Option, Some, None, slice_get}
 use Rattle.btf_model.specs.Record.{Kind, FuncProto, Record, kind_of}
 use Rattle.btf_order_model.specs.Uses.{Use, NeedsUse}
