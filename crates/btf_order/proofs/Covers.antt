@@ -2,8 +2,8 @@
 use Rattle.std.proofs.Common.{◌≡◌, ◌<◌, ◌≤◌, ◌+◌, ◌⊎◌, ◌||◌, ◌&&◌, ℕ, Bool, true, false, not, List, length, IsTrue, refl, ap, sym, subst, ◌∙◌, inl, inr, Option, Some, None, arith, slice_get}
 use Rattle.std.specs.List.{Contains}
 use Rattle.std.proofs.lemmas.Option.{slice_get_within, slice_get_read, same_Some}
-use Rattle.btf_model.specs.Record.{Record, kind_of}
-use Rattle.btf_order_model.specs.Order.{value_types, value_types_or, value_types_in, is_declared, is_declared_by, is_declared_or, HasByValue, NeedsComplete}
+use Rattle.btf_model.specs.Record.{Record}
+use Rattle.btf_order_model.specs.Order.{value_types, value_types_or, value_types_in, is_declared, is_declared_or, HasByValue, NeedsComplete}
 use Rattle.btf_order.specs.declared.frame.Frame.{Frame}
 use Rattle.btf_order.specs.declared.frame.Link.{Link}
 use Rattle.btf_order.specs.declared.shape.Node.{Node}
@@ -29,7 +29,7 @@ pub not_behind : (through : Bool) → (through ≡ true → ⊥) → through ≡
 not_behind true never = absurd (never refl)
 not_behind false never = refl
 
-done_cases : (through all : Bool) → (not through || all) ≡ true → Covers through all
+pub done_cases : (through all : Bool) → (not through || all) ≡ true → Covers through all
 done_cases true all e = inr e
 done_cases false all e = inl refl
 
@@ -71,7 +71,7 @@ module _ (records : List Record) where
 
   -- ---- the next type of a frame
 
-  by_place : (i n : ℕ) → i < n + 1 → (i < n) ⊎ (i ≡ n)
+  pub by_place : (i n : ℕ) → i < n + 1 → (i < n) ⊎ (i ≡ n)
   by_place i n lt = grind arith
 
   pub frame_after : (ids : List ℕ) (f g : Frame) (node : Node) (link : Link) → IsWalkFrame records ids f → Refers (value_types_in records f.node.id) f.node.through_pointer f.next node → LinkIs records ids node link
@@ -108,7 +108,7 @@ module _ (records : List Record) where
   link_is ids f link shape r here is_shape strong covered (inr is_strong) = by (strong is_strong) where
     by : (shape ≡ Prototype) ⊎ (is_done f ≡ true) → IsCovered records ids f.node.id
     by (inl prototype) =
-        let none : (length (value_types r) ≡ 0) × (is_declared_by (kind_of r.info) r ≡ false) = subst (IsShape r) prototype is_shape in
+        let none : IsShape r Prototype = subst (IsShape r) prototype is_shape in
         covered_nothing ids f.node.id (ap (λ o. length (value_types_or o)) here ∙ none.0) (ap is_declared_or here ∙ none.1)
     by (inr done) = covered done
 

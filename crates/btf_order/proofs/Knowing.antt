@@ -24,7 +24,7 @@ use Rattle.btf_order.proofs.Opening.{by, marked_opens, behind_opens}
 -- ---- marks
 
 -- a mark that is written is complete only if it was, or is written as `Complete`
-complete_before : (marks : List Mark) (i j : ℕ) → i < length marks → is_complete_in (set marks i Open) j ≡ true → is_complete_in marks j ≡ true
+pub complete_before : (marks : List Mark) (i j : ℕ) → i < length marks → is_complete_in (set marks i Open) j ≡ true → is_complete_in marks j ≡ true
 complete_before marks i j lt e = by (same_or_not j i) where
   by : (j ≡ i) ⊎ (j ≢ i) → is_complete_in marks j ≡ true
   by (inl same) = absurd (true_not_false (sym e ∙ ap (is_complete_in (set marks i Open)) same ∙ ap is_complete_mark (set_here marks i Open lt)))
@@ -40,7 +40,7 @@ stays_complete marks i j new e = by (same_or_not j i) where
 pub closed_here : (marks : List Mark) (i : ℕ) → i < length marks → is_complete_in (set marks i Complete) i ≡ true
 closed_here marks i lt = ap is_complete_mark (set_here marks i Complete lt)
 
-closed_cases : (marks : List Mark) (i j : ℕ) → is_complete_in (set marks i Complete) j ≡ true → (j ≡ i) ⊎ (is_complete_in marks j ≡ true)
+pub closed_cases : (marks : List Mark) (i j : ℕ) → is_complete_in (set marks i Complete) j ≡ true → (j ≡ i) ⊎ (is_complete_in marks j ≡ true)
 closed_cases marks i j e = by (same_or_not j i) where
   by : (j ≡ i) ⊎ (j ≢ i) → (j ≡ i) ⊎ (is_complete_in marks j ≡ true)
   by (inl same) = inl same
@@ -124,26 +124,26 @@ module _ (records : List Record) where
   -- a type that was opened by its walks, or waits for a leaf
   module _ (p q : Progress) (knows : KnowsOrder records p) (id : ℕ) where
     pub behind_knows : (v : Visit) → IsBehind p q id v → KnowsOrder records q
-    behind_knows (Returns link) (same, weak) = subst (KnowsOrder records) (sym same) knows
+    behind_knows (Returns link) (same, weak, walked) = subst (KnowsOrder records) (sym same) knows
     behind_knows (Opens node) (is, marks, walks, less, same) =
-        knows_from p q knows (ap (λ v. length v.items) marks) (ap (λ xs. length xs) walks.1 ∙ length-set p.walks.items id walks.0) same
+        knows_from p q knows (ap (λ v. length v.items) marks) (ap (λ xs. length xs) walks.2 ∙ length-set p.walks.items id walks.0) same
         (λ j e. knows.complete j (ap (λ v. is_complete_in v.items j) (sym marks) ∙ e))
 
     pub behind_grows : (v : Visit) → IsBehind p q id v → Grows p q
-    behind_grows (Returns link) (same, weak) = subst (Grows p) (sym same) (grows_same p)
+    behind_grows (Returns link) (same, weak, walked) = subst (Grows p) (sym same) (grows_same p)
     behind_grows (Opens node) (is, marks, walks, less, same) = record {
       complete = λ j e. ap (λ v. is_complete_in v.items j) marks ∙ e;
       ids = same_ids p q same;
     }
 
     pub behind_visit : (v : Visit) (from : Node) → from.id ≡ id → from.through_pointer ≡ true → id < length records → counted records (use_of from) ≡ Some (by id true) → IsBehind p q id v → VisitIs records p q from v
-    behind_visit (Returns link) from here pointer within counts (same, weak) =
+    behind_visit (Returns link) from here pointer within counts (same, weak, walked) =
         (same, λ covers. absurd (elim covers [ inl h ↦ true_not_false (sym pointer ∙ h) | inr h ↦ true_not_false (sym h ∙ weak) ]), λ h. absurd (true_not_false (sym pointer ∙ h)))
     behind_visit (Opens node) from here pointer within counts (is, marks, walks, less, same) = record {
       id = ap (λ (n : Node). n.id) is ∙ sym here;
       inside = subst (λ (n : Node). n.id < length records) (sym is) within;
       counts = counts ∙ ap (λ (n : Node). Some (use_of n)) (sym is);
-      opens = subst (λ (n : Node). OpensOnly p q (use_of n)) (sym is) (behind_opens p q id walks.0 marks walks.1);
+      opens = subst (λ (n : Node). OpensOnly p q (use_of n)) (sym is) (behind_opens p q id walks.0 marks walks.2);
       through_pointer = λ e. pointer;
       less =
           let marks_same : sum_by mark_weight q.marks.items ≡ sum_by mark_weight p.marks.items = ap (λ v. sum_by mark_weight v.items) marks in

@@ -4,5 +4,7 @@ pub mod Opening
 pub mod Covers
 pub mod Knowing
 pub mod Starting
+pub mod Using
+pub mod Ending
 pub mod Results
 pub mod Stacks

@@ -7,6 +7,7 @@ use Rattle.btf_order.specs.declared.frame.Frame.{Frame}
 use Rattle.btf_order.specs.declared.shape.Node.{Node}
 use Rattle.btf_order.specs.Frame.{IsWalkFrame}
 use Rattle.btf_order.specs.Shape.{Refers, use_of}
+use Rattle.btf_order.specs.Uses.{IsUseFrame, IsNextUse}
 use Rattle.btf_order_model.specs.Uses.{Use, NeedsUse, NeedsThrough}
 use Rattle.btf_order.specs.declared.progress.Progress.{Progress}
 use Rattle.btf_order.specs.Progress.{is_open, NoneWaits, OpensOnly, Closes}
@@ -23,6 +24,8 @@ pub record GoesTo (records : List Record) (f : Frame) (node : Node) : Type 0 whe
   pub refers : Refers (value_types_in records f.node.id) f.node.through_pointer f.next node
   pub needs : NeedsUse records (use_of f.node) (use_of node)
   pub inside : f.node.id < length records
+  pub use_frame : IsUseFrame records f
+  pub next_use : IsNextUse records f node
 
 -- a use is of a type of the stack
 abbrev pub OnStack : List Frame → Node → Use → Type 0

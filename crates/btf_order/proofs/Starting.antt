@@ -12,7 +12,7 @@ use Rattle.btf_order.specs.Progress.{is_complete_in, is_open_mark, is_open_walk,
 use Rattle.btf_order.proofs.Covers.{true_not_false}
 use Rattle.btf_order.proofs.Opening.{by}
 
-none_complete : (n id : ℕ) → is_complete_in (replicate n New) id ≡ false
+pub none_complete : (n id : ℕ) → is_complete_in (replicate n New) id ≡ false
 none_complete zero id = refl
 none_complete (suc n) zero = refl
 none_complete (suc n) (suc id) = none_complete n id

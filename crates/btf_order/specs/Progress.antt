@@ -1,5 +1,5 @@
 -- The types that the walk has come to, and the order of the declarations so far.
-use Rattle.std.specs.Prelude.{IsTrue, ◌≡◌, ◌≢◌, ◌<◌, ◌≤◌, ◌+◌, ◌*◌, ◌⊎◌, ℕ, Bool, true, false, if◌then◌else◌, List, [], ◌∷◌, ◌++◌, length, set, slice_get, Option, Some, None}
+use Rattle.std.specs.Prelude.{IsTrue, ◌≡◌, ◌≢◌, ◌<◌, ◌≤◌, ◌+◌, ◌*◌, ◌⊎◌, ◌||◌, ◌&&◌, ◌==◌, not, ℕ, Bool, true, false, if◌then◌else◌, List, [], ◌∷◌, ◌++◌, length, set, slice_get, Option, Some, None}
 use Rattle.std.specs.List.{Contains, sum_by}
 use Rattle.btf_model.specs.Record.{Record}
 use Rattle.btf_order_model.specs.Order.{IsOrdered, may_be_declared}
@@ -22,7 +22,7 @@ is_complete_mark mark = false
 abbrev pub is_complete_in : List Mark → ℕ → Bool
 is_complete_in marks id = is_complete_mark (slice_get marks id)
 
--- ---- open types
+-- ---- open types and types from which the walk has come back
 
 abbrev pub is_open_mark : Option Mark → Bool
 is_open_mark (Some Open) = true
@@ -36,6 +36,11 @@ is_open_walk None = false
 abbrev pub is_open : Progress → Use → Bool
 is_open p u =
     if u.behind_pointer then is_open_walk (slice_get p.walks.items u.type) else is_open_mark (slice_get p.marks.items u.type)
+
+-- the walk went on from a type through a pointer, and has come back
+abbrev pub is_walked : Option Walks → Bool
+is_walked (Some w) = not w.is_open && (w.left == 0 || not (w.leaf == 0))
+is_walked None = false
 
 -- no type waits for another
 pub record NoneWaits (p : Progress) : Type 0 where
@@ -108,12 +113,13 @@ IsMarked before after id (Opens node) =
     (node ≡ record { id = id; through_pointer = false }) × (slice_get before.marks.items id ≡ Some New)
     × (after.marks.items ≡ set before.marks.items id Open) × (after.walks ≡ before.walks) × IsSameOrder before after
 
--- a type is opened by its walks, or waits for a leaf
+-- a type is opened by its walks, or the walk has come back from it and goes on no more
 abbrev pub IsBehind : Progress → Progress → ℕ → Visit → Type 0
-IsBehind before after id (Returns link) = (after ≡ before) × (link.is_strong ≡ false)
+IsBehind before after id (Returns link) =
+    (after ≡ before) × (link.is_strong ≡ false) × (is_walked (slice_get before.walks.items id) ≡ true)
 IsBehind before after id (Opens node) =
     (node ≡ record { id = id; through_pointer = true }) × (after.marks ≡ before.marks)
-    × ((w : Walks) × (after.walks.items ≡ set before.walks.items id w))
+    × ((w : Walks) × (w.is_open ≡ true) × (after.walks.items ≡ set before.walks.items id w))
     × (sum_by walks_weight after.walks.items + 2 ≤ sum_by walks_weight before.walks.items) × IsSameOrder before after
 
 -- a type is appended to the order, if it is not there

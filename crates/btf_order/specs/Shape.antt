@@ -1,6 +1,6 @@
 -- The types that a type refers to, in the order of the walk.
 use Rattle.std.specs.Prelude.{◌≡◌, ◌≤◌, ◌⊎◌, ℕ, Bool, true, false, List, length, slice_get, Option, Some, None}
-use Rattle.btf_model.specs.Record.{Record, kind_of}
+use Rattle.btf_model.specs.Record.{Record, FuncProto, kind_of}
 use Rattle.btf_order_model.specs.Order.{value_types, is_declared_by}
 use Rattle.btf_order_model.specs.Uses.{Use, counted_by}
 use Rattle.btf_plain.specs.declared.items.BtfMember.{BtfMember}
@@ -52,7 +52,8 @@ CountsAs r behind Behind =
 
 -- a prototype has no type by value, and is not declared
 abbrev pub IsShape : Record → Shape → Type 0
-IsShape r Prototype = (length (value_types r) ≡ 0) × (is_declared_by (kind_of r.info) r ≡ false)
+IsShape r Prototype =
+    (length (value_types r) ≡ 0) × (is_declared_by (kind_of r.info) r ≡ false) × (kind_of r.info ≡ Some FuncProto)
 IsShape r shape = Unit {0}
 
 -- only behind a pointer a type is passed otherwise than by value

@@ -6,7 +6,9 @@ ghost use Rattle.btf_records.specs.BtfType.{record_of};
 ghost use Rattle.btf_plain.specs.declared.error.BtfError.TheVariants.{MaximumTypeDepthReached, OutOfMemory};
 ghost use Rattle.btf_order.specs.Errors.{IsVisitError};
 ghost use Rattle.btf_order.specs.Shape.{use_of};
+ghost use Rattle.btf_order_model.specs.Uses.{uses_in};
 ghost use Rattle.btf_order.specs.Frame.{IsWalkFrame, IsCovered, LinkIs, is_done};
+ghost use Rattle.btf_order.specs.Uses.{KnowsUses, IsUseFrame, UseLinkIs, VisitedUseIs};
 ghost use Rattle.btf_order.specs.Progress.{KnowsOrder, NoneWaits, Grows, Closes, IsListed, HasLeft, LeavesWalks, VisitIs, IsMarked, IsBehind, is_complete_in, is_open_mark, is_open_walk, left_over};
 
 use crate::frame::{Frame, Link};
@@ -66,6 +68,7 @@ impl Progress {
         requires { length referenced.items ≡ length table.now.records }
         ensures knows { IfOk result (λ p. KnowsOrder table.now.records p) }
         ensures none_open { IfOk result (λ p. NoneWaits p) }
+        ensures uses { IfOk result (λ p. KnowsUses table.now.records p) }
         ensures error { IfErr result (λ e. e ≡ OutOfMemory) }
     {
         let alloc = allocator_of(table);
@@ -95,8 +98,10 @@ impl Progress {
     #[inline(always)]
     pub fn pass(&mut self, table: &Btf, id: u32) -> bool
         requires knows { KnowsOrder table.now.records self.old }
+        requires uses { KnowsUses table.now.records self.old }
         requires inside { id < length table.now.records }
         ensures knows { KnowsOrder table.now.records self.new }
+        ensures uses { KnowsUses table.now.records self.new }
         ensures grows { Grows self.old self.new }
         ensures none_open { NoneWaits self.old → NoneWaits self.new }
         ensures complete { result ≡ true → is_complete_in self.new.marks.items id ≡ true }
@@ -124,9 +129,12 @@ impl Progress {
 
     /// The walk comes to a type.
     pub fn visit(&mut self, table: &Btf, node: Node) -> Result<Visit, BtfError>
-        requires { KnowsOrder table.now.records self.old }
+        requires knows { KnowsOrder table.now.records self.old }
+        requires uses { KnowsUses table.now.records self.old }
         ensures knows { OnOk result (KnowsOrder table.now.records self.new) }
+        ensures uses { OnOk result (KnowsUses table.now.records self.new) }
         ensures grows { OnOk result (Grows self.old self.new) }
+        ensures visited { IfOk result (λ v. VisitedUseIs table.now.records node v) }
         ensures visit { IfOk result (λ v.
             VisitIs table.now.records self.old self.new node v) }
         ensures error { IfErr result (λ e.
@@ -194,8 +202,15 @@ impl Progress {
         requires frame { IsWalkFrame table.now.records self.old.ids.items frame.now }
         requires last { length (value_types_in table.now.records frame.now.node.id)
             ≤ frame.now.next }
+        requires uses { KnowsUses table.now.records self.old }
+        requires use_frame { IsUseFrame table.now.records frame.now }
+        requires last_use { length (uses_in table.now.records (use_of frame.now.node))
+            ≤ frame.now.next }
         requires inside { frame.now.node.id < length table.now.records }
         ensures knows { OnOk result (KnowsOrder table.now.records self.new) }
+        ensures uses { OnOk result (KnowsUses table.now.records self.new) }
+        ensures use_link { IfOk result (λ l.
+            UseLinkIs table.now.records frame.now.node l) }
         ensures grows { OnOk result (Grows self.old self.new) }
         ensures closes { OnOk result (Closes self.old self.new (use_of frame.now.node)) }
         ensures link { IfOk result (λ l.

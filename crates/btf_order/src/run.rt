@@ -6,6 +6,7 @@ ghost use Rattle.std.specs.Prelude.{◌≡◌, ◌<◌, true, length, OnOk, IfOk
 ghost use Rattle.btf_order.specs.Errors.{IsOrderError, IsStepError};
 ghost use Rattle.btf_order.specs.Shape.{use_of};
 ghost use Rattle.btf_order.specs.Frame.{IsWalkFrame};
+ghost use Rattle.btf_order.specs.Uses.{KnowsUses, IsUseFrame, UseStepIs};
 ghost use Rattle.btf_order.specs.Progress.{KnowsOrder, Grows, NoneWaits, is_complete_in};
 ghost use Rattle.btf_order.specs.Run.{WalkStepIs};
 
@@ -27,9 +28,11 @@ enum Step {
 /// Walks from a type, by value.
 pub fn run(table: &Btf, root: u32, progress: &mut Progress) -> Result<(), BtfError>
     requires knows { KnowsOrder table.now.records progress.old }
+    requires uses { KnowsUses table.now.records progress.old }
     requires root { root < length table.now.records }
     requires none_open { NoneWaits progress.old }
     ensures knows { OnOk result (KnowsOrder table.now.records progress.new) }
+    ensures uses { OnOk result (KnowsUses table.now.records progress.new) }
     ensures grows { OnOk result (Grows progress.old progress.new) }
     ensures none_open { OnOk result (NoneWaits progress.new) }
     ensures error { IfErr result (λ e. IsOrderError table.now.records e) }
@@ -65,13 +68,18 @@ pub fn run(table: &Btf, root: u32, progress: &mut Progress) -> Result<(), BtfErr
 fn advance(table: &Btf, top: &mut Frame, progress: &mut Progress) -> Result<Step, BtfError>
     requires knows { KnowsOrder table.now.records progress.old }
     requires frame { IsWalkFrame table.now.records progress.old.ids.items top.old }
+    requires uses { KnowsUses table.now.records progress.old }
+    requires use_frame { IsUseFrame table.now.records top.old }
     requires inside { top.old.node.id < length table.now.records }
     ensures knows { OnOk result (KnowsOrder table.now.records progress.new) }
     ensures grows { OnOk result (Grows progress.old progress.new) }
+    ensures uses { OnOk result (KnowsUses table.now.records progress.new) }
+    ensures use_frame { OnOk result (IsUseFrame table.now.records top.new) }
     ensures frame { OnOk result (IsWalkFrame table.now.records progress.new.ids.items top.new) }
     ensures node { OnOk result (top.new.node ≡ top.old.node) }
     ensures error { IfErr result (λ e.
         IsStepError table.now.records progress.old (use_of top.old.node) e) }
+    ensures use_step { IfOk result (λ s. UseStepIs table.now.records top.new s) }
     ensures step { IfOk result (λ s.
         WalkStepIs table.now.records progress.old progress.new top.new s) }
 {

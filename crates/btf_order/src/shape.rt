@@ -1,6 +1,6 @@
 //! The types that a type refers to, in the order of the walk, and whether it is declared.
 
-ghost use Rattle.std.specs.Prelude.{◌≡◌, ◌≤◌, ◌<◌, if◌then◌else◌, slice_get, map, length, true, false, IsTrue, [], ◌∷◌};
+ghost use Rattle.std.specs.Prelude.{◌≡◌, ◌≤◌, ◌<◌, if◌then◌else◌, slice_get, map, length, true, false, Bool, IsTrue, [], ◌∷◌};
 ghost use Rattle.btf_model.specs.Record.{kind_of};
 ghost use Rattle.btf_records.specs.BtfType.{record_of};
 ghost use Rattle.btf_order_model.specs.Order.{value_types, is_declared_by, may_be_declared_by};
@@ -165,6 +165,8 @@ pub fn is_alone(btf_type: &BtfType) -> bool
     ensures no_types { result ≡ true → length (value_types (record_of btf_type.now)) ≡ 0 }
     ensures undeclared { result ≡ true → is_declared_by
         (kind_of (record_of btf_type.now).info) (record_of btf_type.now) ≡ false }
+    ensures no_uses { result ≡ true → (behind : Bool) → uses_by
+        (kind_of (record_of btf_type.now).info) (record_of btf_type.now) behind ≡ [] }
 {
     // Only a use of the record proves that the info word has the kind.
     let _ = btf_type.name_offset();

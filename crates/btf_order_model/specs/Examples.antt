@@ -4,6 +4,7 @@ use Rattle.btf_model.specs.Made.{int, ptr, array, struct, union, enum, fwd, type
 use Rattle.btf_model.specs.Record.{Record, unknown}
 use Rattle.btf_order_model.specs.Order.{value_types_in, is_declared, may_be_declared}
 use Rattle.btf_order_model.specs.Uses.{Use, uses_in, counted}
+use Rattle.btf_order_model.specs.Loops.{is_function}
 
 -- A table: 1 is an INT, 2 is `struct a { struct b x[2]; struct a *y; }`, 3 an ARRAY of 4, 4 is `struct b { int x; }`,
 -- 5 a PTR to 2, 6 is `typedef struct b c`, 7 a CONST of 6, 8 a VOLATILE of 7, 9 a RESTRICT of 5, 10 a prototype that
@@ -35,7 +36,7 @@ may_be_alone = (refl, refl, refl)
 
 -- ---- uses
 
-abbrev by : ℕ → Bool → Use
+abbrev pub by : ℕ → Bool → Use
 by id behind = record { type = id; behind_pointer = behind }
 
 -- members and elements by value, what is behind a pointer, and what a modifier and a prototype pass on
@@ -49,3 +50,7 @@ prototype_uses = refl
 -- Behind a pointer a STRUCT with a name does not count, a UNION without a name counts as by value, and a typedef as it is.
 counts : (counted types (by 2 true) ≡ None) × (counted types (by 2 false) ≡ Some (by 2 false)) × (counted types (by 11 true) ≡ Some (by 11 false)) × (counted types (by 6 true) ≡ Some (by 6 true)) × (counted types (by 1 true) ≡ Some (by 1 false)) × (counted types (by 99 false) ≡ None)
 counts = (refl, refl, refl, refl, refl, refl)
+
+-- Of the types of the table only the prototype is a function, unless it is behind a pointer.
+functions : (is_function types (by 10 false) ≡ true) × (is_function types (by 10 true) ≡ false) × (is_function types (by 5 false) ≡ false) × (is_function types (by 99 false) ≡ false)
+functions = (refl, refl, refl, refl)

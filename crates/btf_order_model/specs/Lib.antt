@@ -1,4 +1,5 @@
 pub mod Order
 pub mod Uses
+pub mod Loops
 pub mod Laws
 pub mod Examples

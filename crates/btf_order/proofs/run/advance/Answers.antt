@@ -18,8 +18,17 @@ use Rattle.btf_order.specs.declared.progress.Visit.TheVariants.{Returns}
 use Rattle.btf_order.specs.Frame.{IsWalkFrame}
 use Rattle.btf_order.specs.Progress.{VisitIs, IsTypeOpened, OpensOnly, is_open, left_over}
 use Rattle.btf_order.specs.Shape.{ChildIs, Refers, use_of}
+use Rattle.btf_order.specs.Uses.{VisitedUseIs}
+use Rattle.btf_order.proofs.Using.{frame_after_use}
 use Rattle.btf_order.proofs.Covers.{frame_after, frame_more, types_here}
 use Rattle.btf_order.proofs.run.advance.Goals as goal
+
+-- the next type is the next use of the type on top
+next_is : (records : List Record) (top : Node) (f : Frame) (r : Record) (node : Node) → slice_get records top.id ≡ Some r → f.node ≡ top
+    → option_map use_of (Some node) ≡ slice_get (uses_by (kind_of r.info) r f.node.through_pointer) f.next → slice_get (uses_in records (use_of top)) f.next ≡ Some (use_of node)
+next_is records top f r node here same uses =
+    ap (λ o. slice_get (uses_or o top.through_pointer) f.next) here
+    ∙ ap (λ (n : Node). slice_get (uses_by (kind_of r.info) r n.through_pointer) f.next) (sym same) ∙ sym uses
 
 pub loop-node-preserved : goal.loop-node-preserved
 loop-node-preserved c =
@@ -33,6 +42,12 @@ loop-node-preserved c =
           (subst (λ (ts : List ℕ). ChildIs ts c.loop-node.top.node.through_pointer c.loop-node.top.next (Some c.in-Some.node))
           (types_here c.args.table.now.records c.loop-node.top c.args.top.now (record_of c.in_ok-btf_type.btf_type.now) c.loop-node.invariant.node c.in_ok-btf_type.ensures.record_is) c.in-Some.ensures.child)
           visit.1 c.after.ensures.node c.after.ensures.next c.after.ensures.all_strong);
+      use_frame =
+          frame_after_use c.args.table.now.records c.loop-node.top c.after.result (use_of c.in-Some.node) c.in-Returns.link.is_strong c.loop-node.invariant.use_frame
+          (subst (λ (n : Node). slice_get (uses_in c.args.table.now.records (use_of n)) c.loop-node.top.next ≡ Some (use_of c.in-Some.node)) (sym c.loop-node.invariant.node)
+          (next_is c.args.table.now.records c.args.top.now.node c.loop-node.top (record_of c.in_ok-btf_type.btf_type.now) c.in-Some.node c.in_ok-btf_type.ensures.record_is c.loop-node.invariant.node c.in-Some.ensures.uses))
+          (subst (λ (v : Visit). VisitedUseIs c.args.table.now.records c.in-Some.node v) c.in-Returns.is c.in_ok-link.ensures.visited)
+          c.after.ensures.node c.after.ensures.next c.after.ensures.all_strong;
       node = c.after.ensures.node ∙ c.loop-node.invariant.node;
     }
 
@@ -44,9 +59,7 @@ returns-in-Opens-clause-frame c =
 used_next : (records : List Record) (top : Node) (f : Frame) (r : Record) (node : Node) → slice_get records top.id ≡ Some r → f.node ≡ top
     → option_map use_of (Some node) ≡ slice_get (uses_by (kind_of r.info) r f.node.through_pointer) f.next → Contains (uses_in records (use_of top)) (use_of node)
 used_next records top f r node here same uses =
-    let at : slice_get (uses_in records (use_of top)) f.next ≡ Some (use_of node) =
-    ap (λ o. slice_get (uses_or o top.through_pointer) f.next) here
-    ∙ ap (λ (n : Node). slice_get (uses_by (kind_of r.info) r n.through_pointer) f.next) (sym same) ∙ sym uses in
+    let at = next_is records top f r node here same uses in
     (f.next, slice_get_within (uses_in records (use_of top)) f.next (use_of node) at, get_or_from_slice_get (uses_in records (use_of top)) f.next (use_of node) (use_of node) at)
 
 -- an error at the next type is one of the step
@@ -83,3 +96,17 @@ returns-in-Opens-clause-step c =
       subst (λ (p : Progress). OpensOnly p c.visit.new.self (use_of c.in-Opens.node)) c.loop-node.invariant.same opened.opens,
       opened.inside,
     )
+
+pub returns-in-Opens-clause-use_step : goal.returns-in-Opens-clause-use_step
+returns-in-Opens-clause-use_step c =
+    let opened : IsTypeOpened c.args.table.now.records c.loop-node.progress c.visit.new.self c.in-Some.node c.in-Opens.node =
+    subst (λ (v : Visit). VisitIs c.args.table.now.records c.loop-node.progress c.visit.new.self c.in-Some.node v) c.in-Opens.is c.in_ok-link.ensures.visit in
+    record {
+      direct = use_of c.in-Some.node;
+      here =
+          subst (λ (n : Node). slice_get (uses_in c.args.table.now.records (use_of n)) c.loop-node.top.next ≡ Some (use_of c.in-Some.node)) (sym c.loop-node.invariant.node)
+          (next_is c.args.table.now.records c.args.top.now.node c.loop-node.top (record_of c.in_ok-btf_type.btf_type.now) c.in-Some.node c.in_ok-btf_type.ensures.record_is c.loop-node.invariant.node c.in-Some.ensures.uses);
+      counts = opened.counts;
+      behind = opened.through_pointer;
+      inside = opened.inside;
+    }

@@ -3,8 +3,10 @@ use Rattle.btf_order.specs.declared.run.Step.{Step}
 use Rattle.btf_order.specs.declared.run.Step.TheVariants.{Down, Up}
 use Rattle.btf_order.specs.declared.shape.Node.{Node}
 use Rattle.btf_order.specs.Frame.{LinkIs}
+use Rattle.btf_order.specs.Uses.{UseLinkIs, UseStepIs}
 use Rattle.btf_order.specs.Run.{WalkStepIs}
 use Rattle.btf_order.proofs.Covers.{new_frame, frame_after}
+use Rattle.btf_order.proofs.Using.{new_use_frame, frame_after_use, use_is}
 use Rattle.btf_order.proofs.Knowing.{grows_trans}
 use Rattle.btf_order.proofs.Stacks.{Waiting, OnStack, down_waiting, up_waiting, down_open, up_open, down_bottom, up_bottom, step_error}
 use Rattle.btf_order.specs.Errors.{IsOrderError}
@@ -15,15 +17,19 @@ pub steps-preserved-in-Down : goal.steps-preserved-in-Down
 steps-preserved-in-Down c =
     let step : WalkStepIs c.args.table.now.records c.steps.progress c.advance.new.progress c.advance.new.top (Down c.in-Down.node) =
     subst (λ (s : Step). WalkStepIs c.args.table.now.records c.steps.progress c.advance.new.progress c.advance.new.top s) c.in-Down.is c.in_ok-node-2.ensures.step in
+    let use_step : UseStepIs c.args.table.now.records c.advance.new.top (Down c.in-Down.node) =
+    subst (λ (s : Step). UseStepIs c.args.table.now.records c.advance.new.top s) c.in-Down.is c.in_ok-node-2.ensures.use_step in
     record {
       knows = c.in_ok-node-2.ensures.knows;
       grows = grows_trans c.args.progress.now c.steps.progress c.advance.new.progress c.steps.invariant.grows c.in_ok-node-2.ensures.grows;
+      uses = c.in_ok-node-2.ensures.uses;
+      use_frame = new_use_frame c.args.table.now.records c.new-top-in-Down.result c.new-top-in-Down.ensures.next;
       frame = new_frame c.args.table.now.records c.advance.new.progress.ids.items c.new-top-in-Down.result c.new-top-in-Down.ensures.next;
       waiting =
           subst (λ (n : Node). Waiting c.args.table.now.records c.advance.new.progress.ids.items c.push.new.self.items n) (sym c.new-top-in-Down.ensures.node)
           (down_waiting c.args.table.now.records c.steps.progress.ids.items c.advance.new.progress.ids.items c.steps.below.items c.push.new.self.items c.steps.top c.advance.new.top c.in-Down.node
           c.in_ok-node-2.ensures.grows.ids c.in_ok-node-2.ensures.node c.steps.invariant.waiting c.in_ok-node-2.ensures.frame
-          (record { refers = step.0; needs = step.2; inside = subst (λ (n : Node). n.id < length c.args.table.now.records) (sym c.in_ok-node-2.ensures.node) c.steps.invariant.inside })
+          (record { refers = step.0; needs = step.2; use_frame = c.in_ok-node-2.ensures.use_frame; next_use = use_step; inside = subst (λ (n : Node). n.id < length c.args.table.now.records) (sym c.in_ok-node-2.ensures.node) c.steps.invariant.inside })
           c.in_ok-push-in-Down.ensures.items);
       inside = subst (λ (n : Node). n.id < length c.args.table.now.records) (sym c.new-top-in-Down.ensures.node) step.4;
       opened = λ u e.
@@ -51,6 +57,12 @@ steps-preserved c =
     subst (λ (s : Step). WalkStepIs c.args.table.now.records c.steps.progress c.advance.new.progress c.advance.new.top s) c.in-Up.is c.in_ok-node-2.ensures.step in
     record {
       knows = c.in_ok-link-in-Up.ensures.knows;
+      uses = c.in_ok-link-in-Up.ensures.uses;
+      use_frame =
+          frame_after_use c.args.table.now.records c.in-Some.next c.after-top.result up.1.1.next_use.direct c.in_ok-link-in-Up.link.is_strong up.1.1.use_frame up.1.1.next_use.here
+          (use_is c.args.table.now.records c.in-Some.next c.steps.top.node c.in_ok-link-in-Up.link
+          (subst (λ (n : Node). UseLinkIs c.args.table.now.records n c.in_ok-link-in-Up.link) c.in_ok-node-2.ensures.node c.in_ok-link-in-Up.ensures.use_link) up.1.1.next_use)
+          c.after-top.ensures.node c.after-top.ensures.next c.after-top.ensures.all_strong;
       grows = grows_trans c.args.progress.now c.steps.progress c.close.new.self c.steps.invariant.grows grows;
       frame =
           frame_after c.args.table.now.records c.close.new.self.ids.items c.in-Some.next c.after-top.result c.steps.top.node c.in_ok-link-in-Up.link up.1.0 up.1.1.refers

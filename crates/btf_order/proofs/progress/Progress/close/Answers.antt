@@ -6,6 +6,8 @@ use Rattle.btf_order.specs.Shape.{use_of}
 use Rattle.btf_order.proofs.Opening.{left_closes, closes_before}
 use Rattle.btf_order.proofs.Covers.{covered_more, link_is}
 use Rattle.btf_order.proofs.Knowing.{inside, left_knows, left_grows, left_complete, left_less, grows_trans}
+use Rattle.btf_order.proofs.Using.{frame_ends, frame_sound, use_link_is}
+use Rattle.btf_order.proofs.Ending.{same_uses, left_uses}
 use Rattle.btf_order.proofs.progress.Progress.close.Goals as goal
 
 pub returns-clause-knows : goal.returns-clause-knows
@@ -53,3 +55,17 @@ returns-clause-closes c =
     subst (λ (n : ℕ). c.args.frame.now.node.id < n) (c.in_ok-place.ensures.knows.marks ∙ sym c.in_ok-place.ensures.knows.walks) inside_marks in
     let closes = left_closes c.place.new.self c.leave.new.self c.args.frame.now.node inside_marks inside_walks c.leave.ensures.walks c.link-link.result.is_settled c.link-link.ensures.by_value c.leave.ensures.left.marks in
     closes_before c.args.self.now c.place.new.self c.leave.new.self (use_of c.args.frame.now.node) c.in_ok-place.ensures.marks c.in_ok-place.ensures.walks closes
+
+pub returns-clause-uses : goal.returns-clause-uses
+returns-clause-uses c =
+    let inside_marks = inside c.args.table.now.records c.place.new.self c.in_ok-place.ensures.knows c.args.frame.now.node.id (record_of c.in_ok-btf_type.btf_type.now) c.in_ok-btf_type.ensures.record_is in
+    let inside_walks : c.args.frame.now.node.id < length c.place.new.self.walks.items =
+    subst (λ (n : ℕ). c.args.frame.now.node.id < n) (c.in_ok-place.ensures.knows.marks ∙ sym c.in_ok-place.ensures.knows.walks) inside_marks in
+    left_uses c.args.table.now.records c.place.new.self c.leave.new.self c.args.frame.now.node c.link-link.result.is_settled inside_walks
+    (same_uses c.args.table.now.records c.args.self.now c.place.new.self c.requires.uses c.in_ok-place.ensures.marks c.in_ok-place.ensures.walks) c.leave.ensures.left c.leave.ensures.walks
+    (frame_ends c.args.table.now.records c.args.frame.now c.requires.use_frame c.requires.last_use)
+    (λ e. frame_sound c.args.table.now.records c.args.frame.now c.requires.use_frame c.requires.last_use (c.link-link.ensures.settled e))
+
+pub returns-clause-use_link : goal.returns-clause-use_link
+returns-clause-use_link c =
+    use_link_is c.args.table.now.records c.args.frame.now c.requires.use_frame c.requires.last_use c.link-link.result c.shape_of.result (record_of c.in_ok-btf_type.btf_type.now) c.in_ok-btf_type.ensures.record_is c.shape_of.ensures c.link-link.ensures.strong

@@ -8,6 +8,7 @@ use Rattle.btf_order.specs.Progress.{NoneWaits, HasLeft, is_open}
 use Rattle.btf_order.proofs.Covers.{covered_nothing, not_behind, true_not_false}
 use Rattle.btf_order.proofs.Knowing.{inside, left_knows, left_grows, left_complete}
 use Rattle.btf_order.proofs.Opening.{left_closes}
+use Rattle.btf_order.proofs.Ending.{alone_sound, left_uses}
 use Rattle.btf_order.proofs.progress.Progress.pass.Goals as goal
 
 -- a type of the table that has nothing by value and is not declared
@@ -44,3 +45,12 @@ pub returns-clause-complete : goal.returns-clause-complete
 returns-clause-complete c e =
     left_complete c.args.table.now.records c.args.self.now c.complete.new.self c.requires.knows c.args.id
     (inside c.args.table.now.records c.args.self.now c.requires.knows c.args.id (record_of c.in-Ok.btf_type.now) c.in-Ok.ensures.record_is) true c.complete.ensures.left refl
+
+pub returns-clause-uses : goal.returns-clause-uses
+returns-clause-uses c =
+    let inside_marks = inside c.args.table.now.records c.args.self.now c.requires.knows c.args.id (record_of c.in-Ok.btf_type.now) c.in-Ok.ensures.record_is in
+    let inside_walks : c.args.id < length c.args.self.now.walks.items =
+    subst (λ (n : ℕ). c.args.id < n) (c.requires.knows.marks ∙ sym c.requires.knows.walks) inside_marks in
+    let sound = alone_sound c.args.table.now.records c.args.id (record_of c.in-Ok.btf_type.now) c.in-Ok.ensures.record_is (c.is_alone.ensures.no_uses c.if-not-is_alone.false) in
+    left_uses c.args.table.now.records c.args.self.now c.complete.new.self (record { id = c.args.id; through_pointer = false }) true inside_walks c.requires.uses c.complete.ensures.left
+    (λ e. c.complete.ensures.walks, λ e. absurd (true_not_false (sym e))) (sound.ends false) (λ e. sound)
