@@ -1,6 +1,6 @@
 -- Function and line records in the model's terms.
 use Rattle.std.specs.Prelude.{◌≡◌, ℕ, if◌then◌else◌, List, [], ◌∷◌, map, option_map, Option, Some, None, Result, Ok, Err}
-use Rattle.std.specs.HashMap.{get_by_text}
+use Rattle.std.specs.HashMap.{get_by_text, hasher_of}
 use Rattle.std.specs.Option.{option_or}
 use Rattle.std.specs.Str.{bytes_eq}
 use Rattle.btf_model.specs.Ext.{Part, Named, Records, AreNamed, records_named, instruction_records}
@@ -35,6 +35,10 @@ line_records s = record { count = s.num_info; words = map line_words s.line_info
 -- the records under each name; `records` maps those of a section to the model's
 abbrev pub by_name : {S H Hasher : Type 0} → (S → Records) → BySection S H Hasher → List ℕ → Option Records
 by_name records b name = option_map records (get_by_text b.sections name)
+
+-- the hasher of the names
+abbrev pub hasher_in : {S H Hasher : Type 0} → BySection S H Hasher → H
+hasher_in b = hasher_of b.sections
 
 -- the function records under each name
 abbrev pub funcs_by_name : {H Hasher : Type 0} → BySection FuncSecInfo H Hasher → List ℕ → Option Records

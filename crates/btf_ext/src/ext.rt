@@ -1,9 +1,9 @@
 //! The `.BTF.ext` section: function, line and relocation records of the sections of a program.
 
-ghost use Rattle.std.specs.Prelude.{◌≡◌, map, Ok};
+ghost use Rattle.std.specs.Prelude.{◌≡◌, map, IfOk, Ok};
 ghost use Rattle.btf_model.specs.Ext.{IsExt};
 ghost use Rattle.btf_plain.specs.Error.{MeetsOrNoMemory, IsOrNoMemory};
-ghost use Rattle.btf_ext.specs.Info.{funcs_by_name, lines_by_name};
+ghost use Rattle.btf_ext.specs.Info.{funcs_by_name, hasher_in, lines_by_name};
 ghost use Rattle.btf_ext.specs.Relocation.{relocation};
 
 use crate::header::Header;
@@ -62,8 +62,10 @@ impl<H: BuildHasher> BtfExt<H> {
     ) -> Result<BtfExt<H>, BtfError>
     where
         H: Clone,
-        ensures { MeetsOrNoMemory ext result
+        ensures ext { MeetsOrNoMemory ext result
             (IsExt endianness «data».now btf.now.strings) }
+        ensures hashers { IfOk result (λ e. H.is_clone hash_builder (hasher_in e.func_info)
+            × (hasher_in e.line_info ≡ hash_builder)) }
     {
         let alloc = allocator_of(btf);
         let header = Header::read(data, endianness)?;

@@ -1,5 +1,6 @@
 //! The data that the rewrite of a table needs from an object.
 
+ghost use Rattle.std.specs.HashMap.{hasher_of};
 ghost use Rattle.std.specs.Prelude.{◌≡◌, List, ℕ, IfOk, IfSome, IfNone};
 ghost use Rattle.btf_table.specs.Layout.{layout_of, sizes_of, offsets_of};
 ghost use Rattle.btf_object_model.specs.Layout as model;
@@ -44,6 +45,8 @@ impl<H: BuildHasher> ObjectLayout<H> {
             layout_of l.sections l.symbols ≡ model.object_layout object.now) }
         ensures indices { IfOk result (λ l. (name : List ℕ)
             → name_indices l.sections name ≡ model.last_index_of object.now name) }
+        ensures hashers { IfOk result (λ l. H.is_clone hash_builder (hasher_of l.sections)
+            × (hasher_of l.symbols ≡ hash_builder)) }
     {
         let sections = read_sections(alloc, object, hash_builder.clone()?)?;
         let symbols = read_symbols(alloc, object, hash_builder)?;
@@ -97,6 +100,7 @@ fn read_sections<H: BuildHasher + Drop>(
         → sizes_of map name ≡ model.last_section_size object.now name) }
     ensures indices { IfOk result (λ map. (name : List ℕ)
         → name_indices map name ≡ model.last_index_of object.now name) }
+    ensures hasher { IfOk result (λ map. hasher_of map ≡ hash_builder) }
 {
     let mut map = HashMap::with_hasher(alloc, hash_builder);
     for index in 0..object.sections().len() {
@@ -113,8 +117,9 @@ fn read_symbols<H: BuildHasher + Drop>(
     object: &Object<'_>,
     hash_builder: H,
 ) -> Result<HashMap<String, u64, H>, AllocError>
-    ensures { IfOk result (λ map. (name : List ℕ)
+    ensures values { IfOk result (λ map. (name : List ℕ)
         → offsets_of map name ≡ model.offset_of object.now name) }
+    ensures hasher { IfOk result (λ map. hasher_of map ≡ hash_builder) }
 {
     let mut map = HashMap::with_hasher(alloc, hash_builder);
     for index in 0..object.symbol_count() {

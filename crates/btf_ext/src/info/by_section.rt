@@ -6,7 +6,7 @@ ghost use Rattle.btf_model.specs.Text.{text_at};
 ghost use Rattle.btf_plain.specs.Error.{MeetsOrNoMemory, IsOrNoMemory, refusal_of};
 ghost use Rattle.btf_ext.specs.SecInfo.{section_of};
 ghost use Rattle.btf_ext.specs.ExtHeader.{part as part_of};
-ghost use Rattle.btf_ext.specs.Info.{by_name, AreByName, GainsSection};
+ghost use Rattle.btf_ext.specs.Info.{by_name, hasher_in, AreByName, GainsSection};
 
 use crate::header::Part;
 use crate::read::{name_at, readable_sections};
@@ -58,7 +58,8 @@ pub struct BySection<S, H: BuildHasher = BuildHasherDefault<FoldHasher>> {
 impl<S: SectionRecords, H: BuildHasher> BySection<S, H> {
     /// No section, in a map with this hasher, without an allocation.
     fn with_hasher(alloc: Global, hash_builder: H) -> Self
-        ensures { (name : List ℕ) → by_name S.records result name ≡ None }
+        ensures none { (name : List ℕ) → by_name S.records result name ≡ None }
+        ensures hasher { hasher_in result ≡ hash_builder }
     {
         Self {
             sections: HashMap::with_hasher(alloc, hash_builder),
@@ -81,8 +82,9 @@ impl<S: SectionRecords, H: BuildHasher> BySection<S, H> {
     where
         H: Drop,
         requires { 0 < part.now.rec_size → 4 * S.width ≤ part.now.rec_size }
-        ensures { MeetsOrNoMemory (by_name S.records) result
+        ensures sections { MeetsOrNoMemory (by_name S.records) result
             (AreByName endianness S.width btf.now.strings (part_of part.now)) }
+        ensures hasher { IfOk result (λ b. hasher_in b ≡ hash_builder) }
     {
         let sections = readable_sections(alloc, part, endianness, btf)?;
         let mut info = Self::with_hasher(alloc, hash_builder);
@@ -112,6 +114,7 @@ impl<S: SectionRecords, H: BuildHasher> BySection<S, H> {
         requires wide { 4 * S.width ≤ rec_size }
         ensures added { OnOk result (GainsSection btf.now endianness rec_size S.width section.now
             (by_name S.records self.old) (by_name S.records self.new)) }
+        ensures hasher { hasher_in self.new ≡ hasher_in self.old }
         ensures refused { IfErr result (λ e. IfSome (refusal_of e)
             (λ f. text_at btf.now.strings section.now.name_offset ≡ Err f)) }
     {
