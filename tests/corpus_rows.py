@@ -168,6 +168,12 @@ COMMAND_LINES = (
     ("relocate a.o --target m.btf --base vmlinux", 3, "section '.text'\n", ""),
     ("sanitize m.btf --base vmlinux -o m.new.btf --table-only --kernel 5.2", 0, "", ""),
     ("check n.btf --base vmlinux --kernel 5.4", 1, "Enum64: needed, and the kernel lacks it\n", ""),
+    (
+        "check n.btf --base vmlinux --kernel 5.4 --target kernel.btf",
+        2,
+        "",
+        "error: --base is for the table of a module, which has no relocations for --target\n",
+    ),
     ("check n.btf n.btf --base vmlinux --kernel 6.0", 0, "\nFile: n.btf\nEnum64: needed\n", ""),
     ("header a.o", 0, GUARD, ""),
     ("header m.btf port device --base vmlinux --kind struct", 0, GUARD, ""),

@@ -1,8 +1,8 @@
 -- The part of a table above a base: over the names of the base, and as it is written.
-use Rattle.std.proofs.Common.{◌≡◌, ◌∙◌, ℕ, zero, suc, ◌+◌, ◌<◌, ◌≤◌, Bool, true, false, ◌||◌, if◌then◌else◌, List, [], ◌∷◌, ◌++◌, length, take, drop, map, get_or, Option, Some, None, Result, Ok, Err, refl, sym, ap, subst, arith, take-suc}
+use Rattle.std.proofs.Common.{◌≡◌, ◌∙◌, ℕ, suc, ◌+◌, ◌<◌, ◌≤◌, Bool, true, false, ◌||◌, if◌then◌else◌, List, [], ◌∷◌, ◌++◌, length, take, drop, map, get_or, Option, Some, None, Result, Ok, Err, sym, ap, subst, arith, take-suc}
 use Rattle.std.specs.Prelude.{◌==◌, nat_lt}
 use Rattle.std.specs.List.{flat_map}
-use Rattle.std.proofs.lemmas.List.{append_assoc, map-append, length-append, length-map, length-take-le, length-drop, take-append-drop}
+use Rattle.std.proofs.lemmas.List.{append_assoc, map-append, length-append, length-map, length-take-le, take-append-drop}
 use Rattle.std.proofs.Math.Seq.{take-append_seam, drop-append_seam}
 use Rattle.btf_model.specs.declared.endianness.Endianness.{Endianness}
 use Rattle.btf_model.specs.Record.{Record}
@@ -12,12 +12,12 @@ use Rattle.btf_model.specs.Blob.{IsTable}
 use Rattle.btf_model.proofs.Comparisons.{same_ok}
 use Rattle.btf_records.specs.BtfType.{record_of}
 use Rattle.btf_records.specs.declared.btf_type.BtfType.{BtfType}
-use Rattle.btf_split_model.specs.Split.{with_sections, joined, cut, over_base, split_canon, split_blob, IsJoined, Extends}
+use Rattle.btf_split_model.specs.Split.{with_sections, over_base, split_canon, split_blob, IsJoined}
 use Rattle.btf_split.specs.Blob.{JoinsAgain}
 use Rattle.btf_rewrite_model.specs.Made.{c_int}
 use Rattle.btf_rewrite_model.specs.Ksyms.{appends_int, int_text, each_stepped}
 use Rattle.btf_rewrite_model.specs.Pass.{no_layout, texts_below}
-use Rattle.btf_rewrite_model.specs.Rewritten.{begun, old_count, pass_of, Rewritten, with_zero_byte}
+use Rattle.btf_rewrite_model.specs.Rewritten.{begun, old_count, pass_of, with_zero_byte}
 use Rattle.btf_rewrite_model.specs.FeatureSet.{answers_of}
 use Rattle.btf_rewrite_model.specs.declared.feature.FeatureAnswer.{FeatureAnswer}
 use Rattle.btf_rewrite_model.specs.declared.ksyms_ids.KsymsIds.{KsymsIds}

@@ -160,11 +160,17 @@ fn read_action<'a>(
             name: text(matches, "name"),
         }),
         "ext" => Ok(Action::Ext { base }),
-        "check" => Ok(Action::Check {
-            base,
-            rewrite: read_rewrite(alloc, command, matches, TableReader::Kernel)?,
-            target: matches.get_str("target"),
-        }),
+        "check" => match (base, matches.get_str("target")) {
+            (Some(_), Some(_)) => Err(refusal(
+                command,
+                "--base is for the table of a module, which has no relocations for --target",
+            )),
+            (base, target) => Ok(Action::Check {
+                base,
+                rewrite: read_rewrite(alloc, command, matches, TableReader::Kernel)?,
+                target,
+            }),
+        },
         "sanitize" => {
             let is_table_only = matches.get_flag("table-only");
             // A kernel takes the table alone, and loaders take the object.
