@@ -71,6 +71,9 @@ KERNELS = ("kernel1", "kernel2", "kernel3")
 # The split tables, all over base.btf.
 MODULES = ("module1.btf", "module2.btf", "module3.btf")
 
+# The object of a module, which has a distilled base too.
+SPLIT_OBJECT = "distilled.x86_64.module.o"
+
 # What selects types of a dump, and what the first line of each selected type of clang14.bpfel.prog.o matches.
 SELECTED = (
     ("--ids 3..9", r"\[[3-8]\] "),
@@ -92,15 +95,14 @@ HEADERS = (
     ("names.btf", "names.btf.header"),
 )
 
-SPLIT = (
-    "the table is split, as a module's, and its names or ids are in a base: "
-    "check and sanitize rewrite only a whole table, and have no --base"
-)
+SPLIT = "names or ids are not in the table, as in split BTF, whose base --base names"
 UNLINKED = "a variable is extern and not in the object: link it with the object that has it, as bpftool gen object does"
 OTHER_BASE = (
     "the base seems to be of another kernel: a name of type 315 does not begin where a string begins, "
     "or its type is missing"
 )
+
+DISTILLED = "the table continues a distilled base, the section .BTF.base, which is not read"
 
 # The words of a command on a file of tests/corpus_data that is refused, and the error.
 REFUSED = (
@@ -122,10 +124,10 @@ REFUSED = (
     # The names of a module's types, over a base of the same types and other strings.
     ("header module1.btf --base shifted.btf", OTHER_BASE),
     ("layout module1.btf port --base shifted.btf", OTHER_BASE),
-    (
-        "dump distilled.x86_64.module.o --base base.btf",
-        "the table continues a distilled base, the section .BTF.base, which is not read",
-    ),
+    ("check module1.btf --base shifted.btf --kernel 5.4", OTHER_BASE),
+    ("sanitize module1.btf --base shifted.btf -o - --kernel 5.4", OTHER_BASE),
+    ("dump distilled.x86_64.module.o --base base.btf", DISTILLED),
+    ("sanitize distilled.x86_64.module.o --base base.btf -o - --kernel 5.4", DISTILLED),
 )
 
 # The files of the command lines below, of which a.o is standard input too, and their names in tests/corpus_data.
@@ -164,7 +166,15 @@ COMMAND_LINES = (
     ("dump m.btf --base other", 1, "[315] ENUM ", "btfobj: m.btf: the base seems to be of another kernel: "),
     ("relocate a.o --target m.btf --base other", 1, "", "btfobj: m.btf: the base seems to be of another kernel: "),
     ("relocate a.o --target m.btf --base vmlinux", 3, "section '.text'\n", ""),
-    ("sanitize m.btf --base vmlinux", 2, "", "error: unexpected argument '--base' found\n"),
+    ("sanitize m.btf --base vmlinux -o m.new.btf --table-only --kernel 5.2", 0, "", ""),
+    ("check n.btf --base vmlinux --kernel 5.4", 1, "Enum64: needed, and the kernel lacks it\n", ""),
+    (
+        "check n.btf --base vmlinux --kernel 5.4 --target kernel.btf",
+        2,
+        "",
+        "error: --base is for the table of a module, which has no relocations for --target\n",
+    ),
+    ("check n.btf n.btf --base vmlinux --kernel 6.0", 0, "\nFile: n.btf\nEnum64: needed\n", ""),
     ("header a.o", 0, GUARD, ""),
     ("header m.btf port device --base vmlinux --kind struct", 0, GUARD, ""),
     ("header a.o --kind typedef", 0, GUARD, ""),

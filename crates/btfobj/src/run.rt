@@ -10,7 +10,7 @@ use btf_table::Btf;
 use btf_text::Selection;
 use btfobj_cli::{
     Action, Ending, Fault, InputFile, Request, Rewrite, check, compat, dump, explain, ext,
-    file_has_externs, header, is_split, layout, running_base, sanitize, table_alone,
+    file_has_externs, header, layout, running_base, sanitize, table_alone,
 };
 use std::alloc::Global;
 use std::hash::RandomState;
@@ -187,30 +187,38 @@ fn answer_action<'a>(
     out: &mut Output<'_>,
 ) -> Result<Answer, Failure<'a>> {
     match action {
-        Action::Dump { base, selection } => write_types(rt, file, *base, selection, out)?,
+        Action::Dump { base, selection } => listed(write_types(rt, file, *base, selection, out)),
         Action::Header { base, names, kind } => {
-            write_declarations(rt, file, *base, names, *kind, out)?
+            listed(write_declarations(rt, file, *base, names, *kind, out))
         }
-        Action::Layout { base, name } => write_members(rt, file, *base, name, out)?,
-        Action::Ext { base } => write_records(rt, file, *base, out)?,
-        Action::Check { rewrite, target } => {
-            return check_file(rt, file, rewrite, *target, out);
-        }
+        Action::Layout { base, name } => listed(write_members(rt, file, *base, name, out)),
+        Action::Ext { base } => listed(write_records(rt, file, *base, out)),
+        Action::Check {
+            base,
+            rewrite,
+            target,
+        } => check_file(rt, file, *base, rewrite, *target, out),
         Action::Sanitize {
+            base,
             output,
             rewrite,
             is_table_only,
-        } => return write_sanitized(rt, file, output, rewrite, *is_table_only, out),
+        } => write_sanitized(rt, file, *base, output, rewrite, *is_table_only, out),
         Action::Compat {
             target,
             base,
             names,
         } => {
             let target = (*target, *base);
-            return Ok(Answer::from(are_compatible(rt, file, target, names, out)?));
+            Ok(Answer::from(are_compatible(rt, file, target, names, out)?))
         }
-        Action::Relocate { relocation } => return relocate_file(rt, file, relocation, out),
+        Action::Relocate { relocation } => relocate_file(rt, file, relocation, out),
     }
+}
+
+/// The answer of a command that only lists.
+fn listed<'a>(outcome: Result<(), Failure<'a>>) -> Result<Answer, Failure<'a>> {
+    outcome?;
     Ok(Answer::Yes)
 }
 
@@ -222,8 +230,7 @@ fn write_types<'a>(
     selection: &Selection<'_>,
     out: &mut Output<'_>,
 ) -> Result<(), Failure<'a>> {
-    let base = read_base(rt, file, base)?;
-    let bytes = read(rt, file)?;
+    let (bytes, base) = read_with_base(rt, file, base)?;
     blame(
         file,
         dump(rt.alloc(), &bytes, base.as_ref(), selection, out),
@@ -239,8 +246,7 @@ fn write_declarations<'a>(
     kind: Option<BtfKind>,
     out: &mut Output<'_>,
 ) -> Result<(), Failure<'a>> {
-    let base = read_base(rt, file, base)?;
-    let bytes = read(rt, file)?;
+    let (bytes, base) = read_with_base(rt, file, base)?;
     blame(
         file,
         header(rt.alloc(), bytes, base.as_ref(), names, kind, out),
@@ -255,8 +261,7 @@ fn write_members<'a>(
     name: &str,
     out: &mut Output<'_>,
 ) -> Result<(), Failure<'a>> {
-    let base = read_base(rt, file, base)?;
-    let bytes = read(rt, file)?;
+    let (bytes, base) = read_with_base(rt, file, base)?;
     blame(file, layout(rt.alloc(), &bytes, base.as_ref(), name, out))
 }
 
@@ -267,8 +272,7 @@ fn write_records<'a>(
     base: Option<&'a str>,
     out: &mut Output<'_>,
 ) -> Result<(), Failure<'a>> {
-    let base = read_base(rt, file, base)?;
-    let bytes = read(rt, file)?;
+    let (bytes, base) = read_with_base(rt, file, base)?;
     blame(file, ext(rt.alloc(), &bytes, base.as_ref(), out))
 }
 
@@ -277,13 +281,14 @@ fn write_records<'a>(
 fn check_file<'a>(
     rt: &HostRuntime,
     file: &'a str,
+    base: Option<&'a str>,
     rewrite: &Rewrite<'_>,
     target: Option<&'a str>,
     out: &mut Output<'_>,
 ) -> Result<Answer, Failure<'a>> {
-    let bytes = read(rt, file)?;
+    let (bytes, base) = read_with_base(rt, file, base)?;
     let keys = hasher(rt, file)?;
-    let checked = check(rt.alloc(), &bytes, rewrite, keys, out);
+    let checked = check(rt.alloc(), &bytes, base.as_ref(), rewrite, keys, out);
     let checked = blame_rewrite(rt, file, &bytes, checked)?;
     let ending = match target {
         Some(target) => summarize(rt, file, &bytes, target, out)?,
@@ -349,21 +354,20 @@ fn blame_rewrite<'a, T>(
 fn sanitize_file<'a>(
     rt: &HostRuntime,
     file: &'a str,
+    base: Option<&'a str>,
     rewrite: &Rewrite<'_>,
     is_table_only: bool,
 ) -> Result<(Vec<u8>, Answer), Failure<'a>> {
-    let bytes = read(rt, file)?;
-    if is_split(rt.alloc(), &bytes) {
-        return blame(file, Err(Fault::SplitRewrite));
-    }
+    let (bytes, base) = read_with_base(rt, file, base)?;
     let keys = hasher(rt, file)?;
-    let sanitized = sanitize(rt.alloc(), &bytes, rewrite, keys);
+    let sanitized = sanitize(rt.alloc(), &bytes, base.as_ref(), rewrite, keys);
     let (written, answers) = blame_rewrite(rt, file, &bytes, sanitized)?;
     if is_table_only {
         let table = blame(file, table_alone(rt.alloc(), &written))?;
         return Ok((table, Answer::Yes));
     }
-    if !bytes.starts_with(b"\x7fELF") || !lacks_sections(&answers) {
+    // No loader reads maps from the table of a module.
+    if base.is_some() || !bytes.starts_with(b"\x7fELF") || !lacks_sections(&answers) {
         return Ok((written, Answer::Yes));
     }
     let answer = report_sections(rt, file, &bytes)?;
@@ -400,12 +404,13 @@ fn lacks_sections(answers: &[FeatureAnswer]) -> bool {
 fn write_sanitized<'a>(
     rt: &HostRuntime,
     file: &'a str,
+    base: Option<&'a str>,
     output: &'a str,
     rewrite: &Rewrite<'_>,
     is_table_only: bool,
     out: &mut Output<'_>,
 ) -> Result<Answer, Failure<'a>> {
-    let (written, answer) = sanitize_file(rt, file, rewrite, is_table_only)?;
+    let (written, answer) = sanitize_file(rt, file, base, rewrite, is_table_only)?;
     write(rt, output, &written, out)?;
     Ok(answer)
 }
@@ -452,6 +457,16 @@ pub fn read_over<'a>(
     blame(file, input.whole_table_over(rt.alloc(), base))
 }
 
+/// The bytes of a file, and the base of its table if it has one.
+fn read_with_base<'a>(
+    rt: &HostRuntime,
+    file: &'a str,
+    base: Option<&'a str>,
+) -> Result<(Vec<u8>, Option<Btf>), Failure<'a>> {
+    let base = read_base(rt, file, base)?;
+    Ok((read(rt, file)?, base))
+}
+
 /// The base of the table in a file: the table of the file that is given as the base; or else, for a module of the
 /// running kernel, the kernel's table, which is reported.
 fn read_base<'a>(
@@ -459,14 +474,15 @@ fn read_base<'a>(
     file: &'a str,
     base: Option<&'a str>,
 ) -> Result<Option<Btf>, Failure<'a>> {
-    if let Some(name) = base {
-        return Ok(Some(read_over(rt, name, None)?));
-    }
-    let Some(name) = running_base(file) else {
-        return Ok(None);
+    let name = match (base, running_base(file)) {
+        (Some(name), _) => name,
+        (None, Some(name)) => {
+            // An error of standard error cannot be reported.
+            let _ = eprintln!(rt; "btfobj: {file}: read over {name}");
+            name
+        }
+        (None, None) => return Ok(None),
     };
-    // An error of standard error cannot be reported.
-    let _ = eprintln!(rt; "btfobj: {file}: read over {name}");
     Ok(Some(read_over(rt, name, None)?))
 }
 

@@ -2,3 +2,4 @@ mod Files
 mod Reports
 mod Changed
 mod Compared
+mod Above

@@ -1,5 +1,5 @@
 -- The kind of a file, by its bytes.
-use Rattle.std.specs.Prelude.{◌≡◌, ℕ, List, Bool, true, false, slice_get, slice_index, Some}
+use Rattle.std.specs.Prelude.{◌≡◌, ℕ, List, Bool, true, false, slice_get, slice_index, Option, Some, None}
 use Rattle.btf_model.specs.Blob as model
 use Rattle.btf_model.specs.Table as tables
 use Rattle.btf_model.specs.declared.endianness.Endianness.{Endianness}
@@ -67,6 +67,11 @@ HasFileTable input t = (bytes : List ℕ) × HasTableBytes input bytes × model.
 -- The file has this table over a base: the bytes of its table are a split table over the base.
 abbrev pub HasSplitTable : InputFile → tables.Table → tables.Table → Type 0
 HasSplitTable input base t = (bytes : List ℕ) × HasTableBytes input bytes × IsJoined (file_order input) base bytes t
+
+-- The file has this table, over a base if there is one.
+abbrev pub HasTableOver : InputFile → Option tables.Table → tables.Table → Type 0
+HasTableOver input None t = HasFileTable input t
+HasTableOver input (Some base) t = HasSplitTable input base t
 
 -- The file is an object, and these are the bytes of its section `.BTF.ext`.
 abbrev pub HasExt : InputFile → List ℕ → Type 0

@@ -23,6 +23,13 @@ use Rattle.btfobj_cli.specs.declared.rewrite.Rewrite.{Rewrite}
 abbrev pub chosen_target : Rewrite → Target
 chosen_target rewrite = target_of rewrite.kernel rewrite.policy (option_map (λ name. name.now) rewrite.placeholder)
 
+-- The table, which has no sections and no symbols, is rewritten for the target.
+pub record RewritesTable (old : Table) (target : Target) (new : Table) (answers : List FeatureAnswer) : Type 0 where
+  pub ids : Option KsymsIds
+  pub ksyms : FindsKsyms old target.placeholder (Ok ids)
+  pub rewritten : Rewritten target.policy old ids no_layout (answers_of target.has) new
+  pub answers_are : AreAnswers target (Asked (pass_of target.policy old ids no_layout answers)) answers
+
 -- The bytes represent a table. The file is the written form of its rewrite for the target, and parses back to that.
 pub record RewritesAlone (order : Endianness) (bytes : List ℕ) (target : Target) (file : List ℕ)
     (answers : List FeatureAnswer) : Type 0 where

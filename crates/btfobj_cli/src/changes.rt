@@ -1,12 +1,12 @@
 //! The changes that a rewrite would make.
 
 ghost use Rattle.std.specs.Prelude.{◌≡◌, IfOk};
+ghost use Rattle.std.specs.Option.{option_map};
 ghost use Rattle.btfobj_cli.specs.Changes.{Checks, has_changed, lacks_any};
 
 use crate::fault::Fault;
 use crate::input_file::InputFile;
 use crate::rewrite::{Rewrite, sanitize_parsed_input};
-use crate::split::continues_base;
 use btf_model::Endianness;
 use btf_records::BtfType;
 use btf_rewrite_model::{FeatureAnswer, feature_name};
@@ -27,25 +27,30 @@ pub struct Checked {
 }
 
 /// Writes a line for each feature that a file's table needs, with whether the kernel has the feature, and a line for
-/// each type that a rewrite for the kernel changes or adds. Returns whether there is a feature that the kernel lacks,
-/// and whether there is such a type. The errors are those of `sanitize` and of `InputFile::table`, `SplitRewrite` if
-/// names or ids of types are not in the table, and `Write`.
+/// each type that a rewrite for the kernel changes or adds; with a base, of the types above it. Returns whether there
+/// is a feature that the kernel lacks, and whether there is such a type. The errors are those of `sanitize` and `Write`.
 pub fn check<W: io::Write, H: BuildHasher + Clone + Drop>(
     alloc: Global,
     bytes: &[u8],
+    base: Option<&Btf>,
     rewrite: &Rewrite<'_>,
     hash_builder: H,
     out: &mut W,
 ) -> Result<Checked, Fault>
-    ensures { IfOk result (Checks bytes.now rewrite.now) }
+    ensures { IfOk result
+        (Checks bytes.now (option_map (λ b. b.now) base.entry) rewrite.now) }
 {
     let input = InputFile::read(alloc, bytes)?;
-    let old = input.table(alloc)?;
-    if continues_base(&old) {
-        return Err(Fault::SplitRewrite);
-    }
-    let (written, answers) = sanitize_parsed_input(alloc, &input, &old, rewrite, hash_builder)?;
-    let new = InputFile::read(alloc, &written)?.table(alloc)?;
+    let old = input.whole_table_over(alloc, base)?;
+    let (written, answers) = sanitize_parsed_input(
+        alloc,
+        &input,
+        &old,
+        base,
+        rewrite,
+        hash_builder,
+    )?;
+    let new = InputFile::read(alloc, &written)?.table_over(alloc, base)?;
     let mut text = TextBuffer::new(out);
     write_features(answers.as_slice(), &mut text)?;
     let changes = write_changes(alloc, &old, &new, &mut text)?;
@@ -65,11 +70,12 @@ fn lacks_any(answers: &[FeatureAnswer]) -> bool
 fn write_features<W: fmt::Write>(answers: &[FeatureAnswer], out: &mut W) -> fmt::Result {
     for answer in answers {
         let feature = feature_name(answer.feature);
-        if answer.granted {
-            writeln!(out, "{feature}: needed")?;
+        let lack = if answer.granted {
+            ""
         } else {
-            writeln!(out, "{feature}: needed, and the kernel lacks it")?;
-        }
+            ", and the kernel lacks it"
+        };
+        writeln!(out, "{feature}: needed{lack}")?;
     }
     Ok(())
 }
@@ -123,11 +129,12 @@ fn write_change<W: fmt::Write>(
     write_type_line(old.0, old.1, &mut before)?;
     write_type_line(new.0, new.1, &mut after)?;
     let (before, after) = (before.as_str(), after.as_str());
-    if before == after {
-        writeln!(out, "{before} changes in its list")?;
+    let (verb, after) = if before == after {
+        ("changes in its list", "")
     } else {
-        writeln!(out, "{before} becomes {after}")?;
-    }
+        ("becomes ", after)
+    };
+    writeln!(out, "{before} {verb}{after}")?;
     Ok(())
 }
 

@@ -164,7 +164,7 @@ static ARGUMENTS: [Argument; 29] = [
               is that of a module",
     },
     Argument {
-        of: &["dump", "header", "layout", "ext"],
+        of: &["dump", "header", "layout", "ext", "check", "sanitize"],
         name: "base",
         form: Form::Value,
         value: "BASE",
@@ -341,7 +341,8 @@ static COMMANDS: [Description; 8] = [
         name: "check",
         about: "Writes what the table needs of a kernel, and which types a rewrite for the kernel changes",
         after_help: "Examples: btfobj check prog.o --kernel 5.4\n          \
-             btfobj check prog.o --kernel 5.15 --target vmlinux-5.15\n\
+             btfobj check prog.o --kernel 5.15 --target vmlinux-5.15\n          \
+             btfobj check module.btf --base vmlinux --kernel 5.8\n\
              Exit status: 0 where the kernel has what the table needs and each relocation has a value,\n\
              1 where it has not or a relocation has an error, 3 where a relocation poisons its instruction.",
         is_for_kernel: true,
@@ -350,7 +351,8 @@ static COMMANDS: [Description; 8] = [
         name: "sanitize",
         about: "Rewrites the table for a kernel, as a loader does when it loads the object",
         after_help: "Examples: btfobj sanitize prog.o -o prog.5.4.o --kernel 5.4\n          \
-             btfobj sanitize prog.o -o prog.old.o --has Func,DataSec --fill-sized",
+             btfobj sanitize prog.o -o prog.old.o --has Func,DataSec --fill-sized\n          \
+             btfobj sanitize module.btf --base vmlinux -o module.5.8.btf --kernel 5.8",
         is_for_kernel: true,
     },
     Description {

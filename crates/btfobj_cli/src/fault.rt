@@ -36,11 +36,6 @@ pub enum Fault {
     #[error("names or ids are not in the table, as in split BTF, whose base --base names")]
     Split,
 
-    /// The table continues a base, and a rewrite takes only tables that are whole.
-    #[error("the table is split, as a module's, and its names or ids are in a base: \
-         check and sanitize rewrite only a whole table, and have no --base")]
-    SplitRewrite,
-
     /// The base does not have what this type names.
     #[error("the base seems to be of another kernel: a name of type {0} does not begin where a string begins, \
          or its type is missing")]

@@ -13,7 +13,7 @@ use btf_table::Btf;
 use std::alloc::Global;
 
 /// The name of the section with the table of an object.
-const TABLE_SECTION: &str = ".BTF";
+pub const TABLE_SECTION: &str = ".BTF";
 
 /// The name of the section that maps functions, lines and relocations to instructions.
 const EXT_SECTION: &str = ".BTF.ext";
@@ -33,9 +33,9 @@ pub enum InputFile<'a> {
 
 impl<'a> InputFile<'a> {
     ghost use Rattle.std.specs.Prelude.{◌≡◌, true, Err, IfOk, IfErr, IsOkAnd, MatchResult};
-    ghost use Rattle.std.specs.Option.{MatchOption};
+    ghost use Rattle.std.specs.Option.{option_map};
     ghost use Rattle.btf_model.specs.declared.endianness.Endianness.TheVariants.{Little, Big};
-    ghost use Rattle.btfobj_cli.specs.InputFile.{BeginsObject, BeginsTable, HasExt, HasMagic, HasSplitTable, HasFileTable, HasTableBytes, IsFile, IsTableAlone, is_object, file_order};
+    ghost use Rattle.btfobj_cli.specs.InputFile.{BeginsObject, BeginsTable, HasExt, HasMagic, HasFileTable, HasTableOver, HasTableBytes, IsFile, IsTableAlone, is_object, file_order};
     ghost use Rattle.btfobj_cli.specs.Fault.{ReportsObject, ReportsTable, ReportsExt};
     ghost use Rattle.btfobj_cli.specs.declared.fault.Fault.TheVariants as faults;
 
@@ -98,8 +98,8 @@ impl<'a> InputFile<'a> {
     /// The error is `DistilledBase` for an object with a section `.BTF.base`. With a base it is then `NoSection` if an
     /// object has no table, or `Table` with the error of `parse_split`; `OutOfMemory` at any time.
     pub fn table_over(&self, alloc: Global, base: Option<&Btf>) -> Result<Btf, Fault>
-        ensures { IfOk result (λ table. MatchOption base.entry (HasFileTable self.now table)
-            (λ base. HasSplitTable self.now base.now table)) }
+        ensures { IfOk result
+            (HasTableOver self.now (option_map (λ b. b.now) base.entry)) }
     {
         if self.has_distilled_base() {
             return Err(Fault::DistilledBase);
@@ -124,8 +124,8 @@ impl<'a> InputFile<'a> {
     /// The table over its base, as `table_over` returns it, with its errors. If names or ids of its types are not in
     /// it, the error is `Split` without a base, and `OtherBase` with one.
     pub fn whole_table_over(&self, alloc: Global, base: Option<&Btf>) -> Result<Btf, Fault>
-        ensures { IfOk result (λ table. MatchOption base.entry (HasFileTable self.now table)
-            (λ base. HasSplitTable self.now base.now table)) }
+        ensures { IfOk result
+            (HasTableOver self.now (option_map (λ b. b.now) base.entry)) }
     {
         let table = self.table_over(alloc, base)?;
         check_base(&table, base)?;

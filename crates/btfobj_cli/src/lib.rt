@@ -6,6 +6,7 @@ mod command;
 mod compatibility;
 mod fault;
 mod input_file;
+mod part;
 mod relocation;
 mod report;
 mod request;
@@ -21,5 +22,4 @@ pub use relocation::{Ending, Form, Relocated, asks_for_few_types, list_relocatio
 pub use report::{dump, ext, header, layout};
 pub use request::{Action, Relocation, Request, read_request, running_base};
 pub use rewrite::{Rewrite, file_has_externs, sanitize, table_alone};
-pub use split::is_split;
 pub use unlinked::explain;

@@ -72,6 +72,12 @@ fn check_ids(table: &Btf, selection: &Selection<'_>) -> Result<(), Fault> {
     Err(Fault::NoId(count.saturating_sub(1)))
 }
 
+/// Writes what a text still holds.
+fn finish<W: Write>(mut text: TextBuffer<'_, W>) -> Result<(), Fault> {
+    text.flush()?;
+    Ok(())
+}
+
 /// Writes types of a file's table as a C header, as `write_header` does: the types of these names and this kind, and
 /// the types that they need; without names and a kind, all types. With a base, its types come first. The table is
 /// parsed before anything is written, and then the bytes of the file are freed. The error is `NoType` if no type has
@@ -88,8 +94,7 @@ pub fn header<W: Write>(
     drop(bytes);
     let mut text = TextBuffer::new(out);
     write_selected(alloc, &table, names, kind, &mut text)?;
-    text.flush()?;
-    Ok(())
+    finish(text)
 }
 
 /// Writes the types of these names and this kind, and the types that they need; without names and a kind, all types.
@@ -149,8 +154,7 @@ pub fn layout<W: Write>(
     };
     let mut text = TextBuffer::new(out);
     write_layout(alloc, &table, type_id, name, &mut text)?;
-    text.flush()?;
-    Ok(())
+    finish(text)
 }
 
 /// The fault of a name without a layout, for which `find_layout` has this error.
@@ -196,6 +200,5 @@ pub fn ext<W: Write>(
     let section = input.ext()?;
     let mut text = TextBuffer::new(out);
     write_ext(alloc, &table, section, input.endianness(), &mut text)?;
-    text.flush()?;
-    Ok(())
+    finish(text)
 }

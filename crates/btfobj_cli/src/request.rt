@@ -85,11 +85,13 @@ pub enum Action<'a> {
     },
     /// Writes the changes that a rewrite would make, and if there is a target, the relocations that it cannot satisfy.
     Check {
+        base: Option<&'a str>,
         rewrite: Rewrite<'a>,
         target: Option<&'a str>,
     },
     /// Rewrites the file, and writes the new file, or its table alone.
     Sanitize {
+        base: Option<&'a str>,
         output: &'a str,
         rewrite: Rewrite<'a>,
         is_table_only: bool,
@@ -158,10 +160,17 @@ fn read_action<'a>(
             name: text(matches, "name"),
         }),
         "ext" => Ok(Action::Ext { base }),
-        "check" => Ok(Action::Check {
-            rewrite: read_rewrite(alloc, command, matches, TableReader::Kernel)?,
-            target: matches.get_str("target"),
-        }),
+        "check" => match (base, matches.get_str("target")) {
+            (Some(_), Some(_)) => Err(refusal(
+                command,
+                "--base is for the table of a module, which has no relocations for --target",
+            )),
+            (base, target) => Ok(Action::Check {
+                base,
+                rewrite: read_rewrite(alloc, command, matches, TableReader::Kernel)?,
+                target,
+            }),
+        },
         "sanitize" => {
             let is_table_only = matches.get_flag("table-only");
             // A kernel takes the table alone, and loaders take the object.
@@ -171,6 +180,7 @@ fn read_action<'a>(
                 TableReader::Loaders
             };
             Ok(Action::Sanitize {
+                base,
                 output: text(matches, "output"),
                 rewrite: read_rewrite(alloc, command, matches, reader)?,
                 is_table_only,

@@ -2,13 +2,16 @@
 
 ghost use Rattle.std.specs.Prelude.{◌≡◌, ℕ, List, None, IfOk};
 ghost use Rattle.btf_object.specs.Kernel.{kernel_has};
+ghost use Rattle.std.specs.Option.{option_map};
 ghost use Rattle.btf_table.specs.Layout.{sizes_of, offsets_of};
-ghost use Rattle.btfobj_cli.specs.InputFile.{HasFileTable, IsTableOf};
+ghost use Rattle.btfobj_cli.specs.InputFile.{HasFileTable, HasTableOver, IsTableOf};
 ghost use Rattle.btfobj_cli.specs.Changes.{FileHasExterns};
-ghost use Rattle.btfobj_cli.specs.Rewrite.{chosen_target, RewritesTableAlone, RewritesObject, RewritesFile, IsRewritten};
+ghost use Rattle.btfobj_cli.specs.Rewrite.{chosen_target, RewritesTable, RewritesTableAlone, RewritesObject, RewritesFile};
+ghost use Rattle.btfobj_cli.specs.Part.{RewritesFileOver, IsRewrittenOver};
 
 use crate::fault::Fault;
 use crate::input_file::InputFile;
+use crate::part::sanitize_part;
 use arrayvec::ArrayVec;
 use btf_elf::Object;
 use btf_object::{
@@ -39,22 +42,26 @@ pub struct Rewrite<'a> {
 
 /// Rewrites the table of a file for a kernel. Returns the bytes of the new file, and the answers for the features that
 /// the rewrite asked about. An object is rewritten as by `sanitize_finalized` or `sanitize_object_with`, with this
-/// hasher. A table alone has no sections and no symbols.
+/// hasher. A table alone has no sections and no symbols. With a base, the table is split, and only its part above the
+/// base is rewritten, as a table without sections and symbols, in an object too.
 ///
-/// The errors are `UnknownFormat`, `Rewrite` with the error of these calls, `Table` with the error of `Btf::parse`, of
-/// `ksyms_of` or of `Btf::fixup_and_sanitize_with`, and `OutOfMemory`.
+/// The errors are `UnknownFormat`, those of `InputFile::whole_table_over`, `Rewrite` with the error of these calls,
+/// `Table` with the error of `ksyms_of` or of `Btf::fixup_and_sanitize_with`, and `OutOfMemory`.
 pub fn sanitize<H: BuildHasher + Clone + Drop>(
     alloc: Global,
     bytes: &[u8],
+    base: Option<&Btf>,
     rewrite: &Rewrite<'_>,
     hash_builder: H,
 ) -> Result<(Vec<u8>, ArrayVec<FeatureAnswer, 8>), Fault>
     // The new file of an object is the old one with the written form of the rewritten table in its section `.BTF`. The
-    // new file of a table alone is the written form of the rewritten table.
-    ensures { IfOk result (λ r. IsRewritten bytes.now rewrite.now r.0.items r.1.items) }
+    // new file of a table alone is the written form of the rewritten table. With a base this is its part above it.
+    ensures { IfOk result (λ r. IsRewrittenOver bytes.now (option_map (λ b. b.now) base.entry)
+        rewrite.now r.0.items r.1.items) }
 {
     let input = InputFile::read(alloc, bytes)?;
-    sanitize_input(alloc, &input, rewrite, hash_builder)
+    let table = input.whole_table_over(alloc, base)?;
+    sanitize_parsed_input(alloc, &input, &table, base, rewrite, hash_builder)
 }
 
 /// The bytes of the table of a file: of the section `.BTF` of an object, or of the file. The errors are
@@ -76,25 +83,27 @@ pub fn file_has_externs(alloc: Global, file: &[u8]) -> Result<bool, Fault>
     Ok(has_externs(&table))
 }
 
-/// `sanitize` of a file that is already read, with its errors but `UnknownFormat`.
-pub fn sanitize_input<H: BuildHasher + Clone + Drop>(
+/// `sanitize` of a file whose table is already parsed: a table alone is not parsed again.
+pub fn sanitize_parsed_input<H: BuildHasher + Clone + Drop>(
     alloc: Global,
     input: &InputFile<'_>,
+    table: &Btf,
+    base: Option<&Btf>,
     rewrite: &Rewrite<'_>,
     hash_builder: H,
 ) -> Result<(Vec<u8>, ArrayVec<FeatureAnswer, 8>), Fault>
-    ensures { IfOk result (λ r. RewritesFile input.now rewrite.now r.0.items r.1.items) }
+    requires { HasTableOver input.now (option_map (λ b. b.now) base) table.now }
+    ensures { IfOk result (λ r. RewritesFileOver input.now (option_map (λ b. b.now) base.entry)
+        rewrite.now r.0.items r.1.items) }
 {
-    match input {
-        InputFile::Object(object) => rewrite_object(alloc, object, rewrite, hash_builder),
-        InputFile::Table(bytes, endianness) => {
-            sanitize_table(alloc, Btf::parse(alloc, bytes, *endianness)?, rewrite)
-        }
+    match base {
+        Some(base) => sanitize_part(alloc, input, base, rewrite),
+        None => sanitize_whole(alloc, input, table, rewrite, hash_builder),
     }
 }
 
-/// `sanitize_input` of a file whose table is already parsed: a table alone is not parsed again.
-pub fn sanitize_parsed_input<H: BuildHasher + Clone + Drop>(
+/// `sanitize` of a file without a base whose table is already parsed.
+fn sanitize_whole<H: BuildHasher + Clone + Drop>(
     alloc: Global,
     input: &InputFile<'_>,
     table: &Btf,
@@ -158,7 +167,21 @@ fn sanitize_table(
     ensures { IfOk result (λ r.
         RewritesTableAlone table (chosen_target rewrite.now) r.0.items r.1.items) }
 {
-    let ids = ksyms_of(&table, rewrite.placeholder)?;
+    let answers = rewrite_table(alloc, &mut table, rewrite)?;
+    Ok((table.to_bytes()?, answers))
+}
+
+/// Rewrites a table that has no sections and no symbols. Returns the answers for the features that the rewrite asked
+/// about. The errors are `Table` with the error of `ksyms_of` or of `Btf::fixup_and_sanitize_with`, and `OutOfMemory`.
+pub fn rewrite_table(
+    alloc: Global,
+    table: &mut Btf,
+    rewrite: &Rewrite<'_>,
+) -> Result<ArrayVec<FeatureAnswer, 8>, Fault>
+    ensures { IfOk result (λ answers.
+        RewritesTable table.old (chosen_target rewrite.now) table.new answers.items) }
+{
+    let ids = ksyms_of(table, rewrite.placeholder)?;
     let sections = no_sections(alloc);
     let symbols = no_symbols(alloc);
     let kernel = &rewrite.kernel;
@@ -166,12 +189,5 @@ fn sanitize_table(
         ensures { result ≡ kernel_has kernel.entry.now feature }
     { kernel.has(feature) };
     let mut resolver = BtfFeatureResolver::new(has);
-    let answers = table.fixup_and_sanitize_with(
-        &sections,
-        &symbols,
-        ids,
-        rewrite.policy,
-        &mut resolver,
-    )?;
-    Ok((table.to_bytes()?, answers))
+    Ok(table.fixup_and_sanitize_with(&sections, &symbols, ids, rewrite.policy, &mut resolver)?)
 }

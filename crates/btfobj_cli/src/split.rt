@@ -31,11 +31,6 @@ pub fn table_of(alloc: Global, bytes: &[u8]) -> Option<Btf> {
     }
 }
 
-/// Whether the table of a file continues a base. False if the file has no table.
-pub fn is_split(alloc: Global, bytes: &[u8]) -> bool {
-    table_of(alloc, bytes).is_some_and(|table| continues_base(&table))
-}
-
 /// Whether a table has what its types name, in itself or in its base, whose types are at its beginning. The error is
 /// `Split` without a base, and `OtherBase` with one.
 pub fn check_base(table: &Btf, base: Option<&Btf>) -> Result<(), Fault> {
@@ -65,30 +60,32 @@ fn first_misfit(table: &Btf, first: u32) -> Option<u32> {
 
 /// Whether the names of a type and of its items begin where strings begin.
 fn has_whole_names(strings: &[u8], btf_type: &BtfType) -> bool {
-    begins_string(strings, btf_type.name_offset())
-        && match btf_type {
-            BtfType::Struct(t) => t
-                .members()
-                .iter()
-                .all(|it| begins_string(strings, it.name_offset)),
-            BtfType::Union(t) => t
-                .members()
-                .iter()
-                .all(|it| begins_string(strings, it.name_offset)),
-            BtfType::Enum(t) => t
-                .variants()
-                .iter()
-                .all(|it| begins_string(strings, it.name_offset)),
-            BtfType::Enum64(t) => t
-                .variants()
-                .iter()
-                .all(|it| begins_string(strings, it.name_offset)),
-            BtfType::FuncProto(t) => t
-                .params()
-                .iter()
-                .all(|it| begins_string(strings, it.name_offset)),
-            _ => true,
-        }
+    if !begins_string(strings, btf_type.name_offset()) {
+        return false;
+    }
+    match btf_type {
+        BtfType::Struct(t) => t
+            .members()
+            .iter()
+            .all(|it| begins_string(strings, it.name_offset)),
+        BtfType::Union(t) => t
+            .members()
+            .iter()
+            .all(|it| begins_string(strings, it.name_offset)),
+        BtfType::Enum(t) => t
+            .variants()
+            .iter()
+            .all(|it| begins_string(strings, it.name_offset)),
+        BtfType::Enum64(t) => t
+            .variants()
+            .iter()
+            .all(|it| begins_string(strings, it.name_offset)),
+        BtfType::FuncProto(t) => t
+            .params()
+            .iter()
+            .all(|it| begins_string(strings, it.name_offset)),
+        _ => true,
+    }
 }
 
 /// Whether a string begins at an offset: the byte before it is the zero byte of another one.

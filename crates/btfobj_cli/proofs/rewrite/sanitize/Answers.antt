@@ -1,12 +1,14 @@
 use Rattle.std.proofs.Common.{Ok, Err}
 use Rattle.std.specs.Prelude.{IfOk}
-use Rattle.btfobj_cli.specs.Rewrite.{RewritesFile, IsRewritten}
-use Rattle.btfobj_cli.proofs.Files.{rewritten_file}
+use Rattle.std.specs.Option.{option_map}
+use Rattle.btfobj_cli.specs.Part.{RewritesFileOver, IsRewrittenOver}
+use Rattle.btfobj_cli.proofs.Files.{rewritten_over}
 use Rattle.btfobj_cli.proofs.rewrite.sanitize.Goals as goal
 
 pub returns : goal.returns
 returns g c =
-    elim c.sanitize_input.result as (λ r. IfOk r (λ x. RewritesFile c.in_ok-input.input c.args.rewrite.now x.0.items x.1.items) → IfOk r (λ x. IsRewritten c.args.bytes.now c.args.rewrite.now x.0.items x.1.items)) [
-      | Ok x ↦ rewritten_file c.args.bytes.now c.args.rewrite.now c.in_ok-input.input x.0.items x.1.items c.in_ok-input.ensures.read c.in_ok-input.ensures.object c.in_ok-input.ensures.little c.in_ok-input.ensures.big
+    let base = option_map (λ b. b.now) c.args.base in
+    elim c.sanitize_parsed_input.result as (λ r. IfOk r (λ x. RewritesFileOver c.in_ok-input.input base c.args.rewrite.now x.0.items x.1.items) → IfOk r (λ x. IsRewrittenOver c.args.bytes.now base c.args.rewrite.now x.0.items x.1.items)) [
+      | Ok x ↦ rewritten_over c.args.bytes.now base c.args.rewrite.now c.in_ok-input.input x.0.items x.1.items c.in_ok-input.ensures.read c.in_ok-input.ensures.object c.in_ok-input.ensures.little c.in_ok-input.ensures.big
       | Err e ↦ λ _. tt
-    ] c.sanitize_input.ensures
+    ] c.sanitize_parsed_input.ensures

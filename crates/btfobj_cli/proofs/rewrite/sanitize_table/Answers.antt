@@ -1,46 +1,31 @@
-use Rattle.std.proofs.Common.{◌≡◌, ℕ, List, ap, subst, rules}
+use Rattle.std.proofs.Common.{ℕ, List}
 use Rattle.btf_model.specs.Blob.{canon}
 use Rattle.btf_model.specs.Refusal.{Refusal}
 use Rattle.btf_model.specs.Table.{Table}
 use Rattle.btf_model.proofs.Comparisons.{same_ok}
-use Rattle.btf_rewrite_model.specs.Pass.{Layout, Asked}
-use Rattle.btf_rewrite_model.specs.Rewritten.{Rewritten, pass_of}
-use Rattle.btf_rewrite_model.proofs.Kernels.{rewritten_alike}
-use Rattle.btf_table.specs.Features.{Resolver}
-use Rattle.btf_table.specs.Layout.{layout_of}
-use Rattle.btf_table.specs.PassStep.{given_under}
-use Rattle.btf_table.specs.Rewrites.{features_asked}
-use Rattle.btf_table.proofs.Rewriting.{written_again}
-use Rattle.btf_rewrite_model.specs.FeatureSet.{answers_of}
-use Rattle.btf_object_model.specs.Sanitized.{Target}
-use Rattle.btf_rewrite_model.proofs.FeatureSet.{AreOfKernel, kernel_agrees}
-use Rattle.btf_object.proofs.Kernels.{all_of_kernel}
-use Rattle.btf_object.proofs.Named.{layouts_alike}
 use Rattle.btf_rewrite_model.specs.Pass.{no_layout}
+use Rattle.btf_rewrite_model.specs.FeatureSet.{answers_of}
+use Rattle.btf_table.specs.PassStep.{given_under}
+use Rattle.btf_table.proofs.Rewriting.{written_again}
+use Rattle.btf_object_model.specs.Sanitized.{Target}
 use Rattle.btfobj_cli.specs.Rewrite.{chosen_target}
 use Rattle.btfobj_cli.proofs.rewrite.sanitize_table.Goals as goal
 
 pub returns : goal.returns
 returns c =
     let target : Target = chosen_target c.args.rewrite.now in
-    let call = c.fixup_and_sanitize_with in
-    let answers = call.new.resolver.answers in
-    let layout : Layout = layout_of c.no_sections-sections.result c.no_symbols-symbols.result in
-    let same : layout ≡ no_layout = layouts_alike layout no_layout c.no_sections-sections.ensures c.no_symbols-symbols.ensures in
-    let before = ap (λ (r : Resolver _). r.predicate.0.now) c.new-resolver.ensures in
-    let are : AreOfKernel target.has answers = all_of_kernel _ target.has (λ f. f.0.now ≡ c.args.rewrite.now.kernel) (λ f g feature granted is s. (search rules, search rules)) c.new-resolver.result.predicate answers call.new.resolver.predicate before call.ensures.called in
-    let Known : Layout → Type 0 = λ l. Rewritten target.policy c.args.table c.in_ok-ids.ids l answers call.new.self × (features_asked answers ≡ Asked (pass_of target.policy c.args.table c.in_ok-ids.ids l answers)) in
-    let known : Known no_layout = subst Known same c.in_ok-answers.ensures.rewrites in
-    let new : Table = call.new.self in
+    let made = c.in_ok-answers.ensures in
+    let old : Table = c.args.table in
+    let new : Table = c.rewrite_table.new.table in
     let file : List ℕ = c.in_ok-to_bytes.field-0.items in
-    rw c.in_ok-answers.ensures.answers (λ order bytes is. record {
-      old = c.args.table;
+    λ order bytes is. record {
+      old = old;
       new = new;
-      ids = c.in_ok-ids.ids;
+      ids = made.ids;
       table = is;
-      ksyms = c.in_ok-ids.ensures;
-      rewritten = rewritten_alike target.policy c.args.table new c.in_ok-ids.ids no_layout answers (answers_of target.has) known.0 known.1 (kernel_agrees target.has answers are);
-      answers_are = record { of_kernel = are; asked_for = known.1 };
+      ksyms = made.ksyms;
+      rewritten = made.rewritten;
+      answers_are = made.answers_are;
       written = same_ok {E = Refusal} file (canon new) c.in_ok-to_bytes.ensures.written;
-      parses_back = written_again order bytes file c.args.table new c.in_ok-ids.ids (given_under target.policy layout) answers is c.in_ok-answers.ensures.rewrites.0 c.in_ok-to_bytes.ensures.parses_back;
-    })
+      parses_back = written_again order bytes file old new made.ids (given_under target.policy no_layout) (answers_of target.has) is made.rewritten c.in_ok-to_bytes.ensures.parses_back;
+    }

@@ -6,7 +6,7 @@ use Rattle.btf_model.proofs.Comparisons.{same_ok}
 use Rattle.btfobj_cli.specs.InputFile.{HasFileTable, is_object}
 use Rattle.btfobj_cli.specs.Rewrite.{chosen_target, RewritesTableAlone, RewritesFile}
 use Rattle.btfobj_cli.proofs.Files.{rewritten_table}
-use Rattle.btfobj_cli.proofs.rewrite.sanitize_parsed_input.Goals as goal
+use Rattle.btfobj_cli.proofs.rewrite.sanitize_whole.Goals as goal
 
 pub returns-in_ok-try_clone-in-Table : goal.returns-in_ok-try_clone-in-Table
 returns-in_ok-try_clone-in-Table g c =
