@@ -15,7 +15,7 @@ pub returns-clause-relocated : goal.returns-clause-relocated
 returns-clause-relocated g c =
     is_relocated c.args.bytes.now (targets_view c.args.targets.now) (is_shared c.args.policy) c.in_ok-object.object c.header.result.now c.in-Some.table.now c.in-Some-section_named.data.now c.in_ok-local.local (ext c.in-Ok.ext)
     (map relocation c.relocations.result.now) (map outcomes_of c.in_ok-outcomes.outcomes.items) c.deref_mut.result.now c.relocate.new.file _
-    c.in_ok-object.ensures c.header.ensures c.in-Some.ensures c.in_ok-local.ensures.parsed c.in-Some-section_named.ensures c.in-Ok.ensures c.relocations.ensures
+    c.in_ok-object.ensures c.header.ensures c.in-Some.ensures c.in_ok-local.ensures.parsed c.in-Some-section_named.ensures c.in-Ok.ensures.ext c.relocations.ensures
     (c.deref_mut.ensures.value ∙ c.in_ok-file.ensures.items)
     (take_at c.relocate.new.file _ c.in_ok-file.file.len (omega arith))
     c.in_ok-outcomes.ensures.readable c.in_ok-outcomes.ensures.relocated
@@ -32,7 +32,7 @@ returns-in-Err-clause-cause g c =
     subst (IsLoaderCause (IsReasonAmong c.args.bytes.now (targets_view c.args.targets.now) (is_shared c.args.policy) (refuses_errors c.args.refusals))) (sym c.ext_error.ensures)
     (ext_cause c.args.bytes.now (targets_view c.args.targets.now) (is_shared c.args.policy) (refuses_errors c.args.refusals) c.in_ok-object.object c.header.result.now c.in_ok-local.local c.in-Some-section_named.data.now c.in-Err.error
     (has_table c.args.bytes.now c.in_ok-object.object c.header.result.now c.in-Some.table.now c.in_ok-local.local c.in_ok-object.ensures c.header.ensures c.in-Some.ensures c.in_ok-local.ensures.parsed)
-    c.header.ensures c.in-Some-section_named.ensures c.in-Err.ensures)
+    c.header.ensures c.in-Some-section_named.ensures c.in-Err.ensures.ext)
 
 pub returns-in_err-outcomes-clause-cause : goal.returns-in_err-outcomes-clause-cause
 returns-in_err-outcomes-clause-cause g c =
@@ -41,7 +41,7 @@ returns-in_err-outcomes-clause-cause g c =
     becomes _ c.in_err-outcomes.field-0.0 c.from_residual-in_err-outcomes.result
     (section_cause c.args.bytes.now (targets_view c.args.targets.now) (is_shared c.args.policy) (refuses_errors c.args.refusals) c.in_ok-object.object c.in_ok-local.local sections
     (has_table c.args.bytes.now c.in_ok-object.object c.header.result.now c.in-Some.table.now c.in_ok-local.local c.in_ok-object.ensures c.header.ensures c.in-Some.ensures c.in_ok-local.ensures.parsed)
-    (are_sections c.in_ok-object.object c.header.result.now c.in-Some-section_named.data.now c.in_ok-local.local (ext c.in-Ok.ext) sections c.header.ensures c.in-Some-section_named.ensures c.in-Ok.ensures c.relocations.ensures)
+    (are_sections c.in_ok-object.object c.header.result.now c.in-Some-section_named.data.now c.in_ok-local.local (ext c.in-Ok.ext) sections c.header.ensures c.in-Some-section_named.ensures c.in-Ok.ensures.ext c.relocations.ensures)
     c.in_err-outcomes.field-0.0
     (subst (λ (b : List ℕ). IsReport (sections_reason (kernel_setting c.in_ok-local.local (targets_view c.args.targets.now)) (is_shared c.args.policy) (refuses_errors c.args.refusals) c.in_ok-object.object b sections) c.in_err-outcomes.field-0.0) start c.in_err-outcomes.ensures.reports))
     c.from_residual-in_err-outcomes.ensures.1
@@ -52,5 +52,5 @@ returns-clause-accepted g c =
     let start : c.deref_mut.result.now ≡ c.args.bytes.now = c.deref_mut.ensures.value ∙ c.in_ok-file.ensures.items in
     accepted c.args.bytes.now (targets_view c.args.targets.now) (is_shared c.args.policy) (refuses_errors c.args.refusals) c.in_ok-object.object c.in_ok-local.local sections
     (has_table c.args.bytes.now c.in_ok-object.object c.header.result.now c.in-Some.table.now c.in_ok-local.local c.in_ok-object.ensures c.header.ensures c.in-Some.ensures c.in_ok-local.ensures.parsed)
-    (are_sections c.in_ok-object.object c.header.result.now c.in-Some-section_named.data.now c.in_ok-local.local (ext c.in-Ok.ext) sections c.header.ensures c.in-Some-section_named.ensures c.in-Ok.ensures c.relocations.ensures)
+    (are_sections c.in_ok-object.object c.header.result.now c.in-Some-section_named.data.now c.in_ok-local.local (ext c.in-Ok.ext) sections c.header.ensures c.in-Some-section_named.ensures c.in-Ok.ensures.ext c.relocations.ensures)
     (ap (λ (b : List ℕ). sections_reason (kernel_setting c.in_ok-local.local (targets_view c.args.targets.now)) (is_shared c.args.policy) (refuses_errors c.args.refusals) c.in_ok-object.object b sections) (sym start) ∙ c.in_ok-outcomes.ensures.reports)
