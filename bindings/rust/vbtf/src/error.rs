@@ -99,7 +99,7 @@ pub enum Error {
     InvalidArgument,
     /// The bytes are no ELF object that is read here.
     NotAnObject {
-        /// The row of the reason in the first table of `docs/OBJECTS.md`, from 1 on.
+        /// The number of the reason in the first list of `docs/OBJECTS.md`.
         reason: u32,
         /// The class, the encoding, or the index of a section or symbol; 0 if the reason has none.
         detail: u64,
