@@ -11,8 +11,7 @@ mod steps;
 mod walk;
 
 use btf_relocate_model::{Pair, RelocationError, Rule};
-use btf_table::WALK_LIMIT;
-use btf_view::TableRef;
+use btf_table::{Btf, WALK_LIMIT};
 use std::alloc::Global;
 use std::collections::BTreeMap;
 use walk::{Next, next_step, resolve_pair};
@@ -48,8 +47,8 @@ struct Progress {
 pub fn types_alike(
     alloc: Global,
     rule: Rule,
-    local: &TableRef<'_>,
-    target: &TableRef<'_>,
+    local: &Btf,
+    target: &Btf,
     local_id: u32,
     target_id: u32,
 ) -> Result<bool, RelocationError>
@@ -76,8 +75,8 @@ pub fn types_alike(
 fn advance(
     alloc: Global,
     rule: Rule,
-    local: &TableRef<'_>,
-    target: &TableRef<'_>,
+    local: &Btf,
+    target: &Btf,
     progress: &mut Progress,
     frame: &Frame,
     answer: Option<bool>,
@@ -120,8 +119,8 @@ fn advance(
 /// The answer of a pair, if it is known; otherwise its comparison begins.
 fn ask(
     rule: Rule,
-    local: &TableRef<'_>,
-    target: &TableRef<'_>,
+    local: &Btf,
+    target: &Btf,
     progress: &mut Progress,
     pair: &Pair,
 ) -> Result<Option<bool>, RelocationError>

@@ -49,9 +49,7 @@ impl<'a> RecordWords<'a> {
 
     /// The kind.
     pub(crate) fn kind(&self) -> BtfKind
-        ensures info { kind_of (record_of_words self.now).info ≡ Some (kinds.kind result) }
-        ensures tail { length (record_of_words self.now).tail
-            ≡ tail_words (kinds.kind result) (vlen (record_of_words self.now).info) }
+        ensures { kind_of (record_of_words self.now).info ≡ Some (kinds.kind result) }
     {
         self.kind
     }

@@ -18,7 +18,7 @@ use btf_table::{Btf, name_bytes, type_count};
 use std::marker::Model;
 
 /// A table in the bytes of a view, with three values of its header.
-#[derive(Clone, Copy, Debug)]
+#[derive(Clone, Copy)]
 struct ViewedTable<'a> {
     view: View<'a>,
     magic: u16,
@@ -27,7 +27,7 @@ struct ViewedTable<'a> {
 }
 
 /// What holds a table.
-#[derive(Clone, Copy, Debug)]
+#[derive(Clone, Copy)]
 enum Source<'a> {
     /// A table that was parsed.
     Parsed(&'a Btf),
@@ -36,7 +36,7 @@ enum Source<'a> {
 }
 
 /// A table that is read: one that was parsed, or a blob with the places of its records. In contracts it is the table.
-#[derive(Debug, Drop)]
+#[derive(Drop)]
 pub struct TableRef<'a> {
     source: Source<'a>,
 }

@@ -1,6 +1,6 @@
 //! A type of a table, whatever holds the table.
 
-ghost use Rattle.std.specs.Prelude.{◌≡◌, ◌<◌, ◌^◌, Some, length, slice_get};
+ghost use Rattle.std.specs.Prelude.{◌≡◌, ◌<◌, ◌^◌, Some, slice_get};
 ghost use Rattle.std.specs.List.{flat_map};
 ghost use Rattle.std.specs.Option.{option_map};
 ghost use Rattle.btf_model.specs.Record as model;
@@ -25,9 +25,7 @@ pub enum TypeRef<'a> {
 impl<'a> TypeRef<'a> {
     /// The kind.
     pub fn kind(&self) -> BtfKind
-        ensures info { kind_of (record_in self.now).info ≡ Some (kinds.kind result) }
-        ensures tail { length (record_in self.now).tail
-            ≡ model.tail_words (kinds.kind result) (model.vlen (record_in self.now).info) }
+        ensures { kind_of (record_in self.now).info ≡ Some (kinds.kind result) }
     {
         match self {
             TypeRef::Parsed(btf_type) => btf_type.kind(),

@@ -28,7 +28,7 @@ use btf_plain::{
 };
 
 /// A view of a table: the bytes of both sections, and the places of the records, which `index` finds.
-#[derive(Clone, Copy, Debug)]
+#[derive(Clone, Copy)]
 pub struct View<'a> {
     /// The byte order of the words.
     pub endianness: Endianness,
