@@ -81,7 +81,7 @@ def viewed(values, name):
     """Each type of a table, as a view and a parsed table give it: the kind, the name's offset, the info word, the number
     of items, the third word, the word after it, the second item of two and of three words; what the id resolves to, and
     the bytes of the name. Nothing if one has another byte order."""
-    return asks(f"viewed {table_words(values, name)}")
+    return asks(f"viewed {table_words(values, name)}", lambda text: text.removesuffix("; "))
 
 
 # ---- kernels
