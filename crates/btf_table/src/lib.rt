@@ -7,7 +7,8 @@ mod table;
 pub use btf_rewrite_model::{BtfFeature, FeatureAnswer, FillPolicy, KsymsIds};
 pub use sanitize::{BtfFeatureResolver, int_of_4, known_offset, rewrite_bytes, rewrite_bytes_with};
 pub use table::{
-    Btf, BtfStr, WALK_LIMIT, allocator_of, append_table, comparable_end, cut_table, is_named,
-    join_tables, name_bytes, readable_strings, set_type, short_name, string_len, string_section,
-    type_count, types_len,
+    Btf, BtfStr, Extent, Header, WALK_LIMIT, allocator_of, append_table, bytes_at, comparable_end,
+    comparable_end_in, cut_table, first_byte, has_name_at, is_named, join_tables, name_bytes,
+    product, readable_bytes, readable_end, readable_strings, section, set_type, short_name,
+    string_len, string_section, type_count, types_len,
 };

@@ -35,14 +35,17 @@ ghost use Rattle.std.specs.Str.{IsUtf8};
 ghost use Rattle.btf_table.specs.Records.{SetsType};
 
 pub(crate) use crate::table::changes::Changes;
-use crate::table::header::{HEADER_LEN, Header, section};
+use crate::table::header::HEADER_LEN;
+pub use crate::table::header::{Header, section};
 pub use crate::table::joining::{append_table, cut_table, join_tables, string_len};
 pub(crate) use crate::table::limits::{record_fits, text_fits};
-pub use crate::table::text::BtfStr;
-use crate::table::text::{bytes_at, find_named, has_name, readable_end, strings_from, text_at};
+pub use crate::table::text::{
+    BtfStr, bytes_at, comparable_end_in, first_byte, has_name_at, readable_bytes, readable_end,
+};
+use crate::table::text::{find_named, has_name, strings_from, text_at};
 pub use crate::table::types::types_len;
 use crate::table::types::{append_types, clone_types, read_types};
-pub use crate::table::walk::WALK_LIMIT;
+pub use crate::table::walk::{Extent, WALK_LIMIT, product};
 use crate::table::walk::{resolve, size};
 use btf_plain::{BtfError, BtfKind, Endianness};
 use btf_records::BtfType;
@@ -454,7 +457,7 @@ pub fn short_name(table: &Btf, offset: u32, limit: usize) -> Option<&[u8]>
 pub fn comparable_end(table: &Btf, name: &str) -> Option<usize>
     ensures { IfSome result (λ end. IsReadableEnd table.now.strings end × IsComparable name.now) }
 {
-    text::comparable_end(&table.strings, name)
+    comparable_end_in(&table.strings, name)
 }
 
 /// Whether the text at a string offset is this name, or `InvalidStringOffset` if there is no text. If the name can be

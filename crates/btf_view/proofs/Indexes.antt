@@ -10,17 +10,17 @@ use Rattle.btf_model.specs.Blob.{header_len, header_of, slice, strings_end, type
 use Rattle.btf_plain.specs.declared.error.BtfError.{BtfError}
 use Rattle.btf_plain.specs.declared.error.BtfError.TheVariants.{InvalidHeader, InvalidTypeInfo}
 use Rattle.btf_view.proofs.Places.{as_many_places}
-use Rattle.btf_view.specs.Header.{blob_header}
+use Rattle.btf_table.specs.Header.{model_header}
 use Rattle.btf_view.specs.Places.{ArePlaces}
 use Rattle.btf_view.specs.Index.{FillsPlaces, IndexesBlob, IsIndexed}
-use Rattle.btf_view.specs.declared.header.Header.{Header}
+use Rattle.btf_table.specs.declared.table.header.Header.{Header}
 use Rattle.btf_view.specs.declared.indexing.Unindexed.{Unindexed}
 use Rattle.btf_view.specs.declared.indexing.Unindexed.TheVariants.{Refused, TooFewPlaces}
 
 -- the first 24 bytes are this header
 pub record HasHeader (order : Endianness) (bytes : List ℕ) (h : Header) : Type 0 where
   pub long : header_len ≤ length bytes
-  pub is : blob_header h ≡ header_of order bytes
+  pub is : model_header h ≡ header_of order bytes
 
 -- a truncated header
 pub no_header : (order : Endianness) (bytes places : List ℕ) (e : BtfError) → length bytes < header_len → e ≡ InvalidHeader → IndexesBlob order bytes places (Err (Refused e))

@@ -1,5 +1,4 @@
 pub mod Places
-pub mod Header
 pub mod Index
 pub mod Record
 pub mod Words
@@ -7,7 +6,6 @@ pub mod TypeRef
 pub mod Forms
 pub mod Items
 pub mod Many
-pub mod Extent
 pub mod View
 pub mod Finding
 pub mod TableRef

@@ -1,6 +1,6 @@
 //! The type of a kind and a name.
 
-ghost use Rattle.std.specs.Prelude.{◌≡◌, ◌≢◌, ◌∷◌, ◌++◌, ℕ, List, IsTrue, Some, get_or, slice_get};
+ghost use Rattle.std.specs.Prelude.{◌≡◌, ◌≢◌, ℕ, IsTrue, Some, slice_get};
 ghost use Rattle.btf_model.specs.Record as model;
 ghost use Rattle.btf_model.specs.Record.{Record, kind_number};
 ghost use Rattle.btf_plain.specs.Kind as kinds;
@@ -9,8 +9,9 @@ ghost use Rattle.btf_view.specs.Places.{ForRecords};
 ghost use Rattle.btf_view.specs.Record.{IsReadAs};
 
 use crate::record::raw_head_at;
-use crate::text::{comparable_end, has_name, readable_bytes};
+use crate::text::has_name;
 use btf_plain::{BtfKind, Endianness, Head};
+use btf_table::{comparable_end_in, first_byte, readable_bytes};
 
 /// The result of looking up a kind and a name.
 #[derive(Clone, Copy, Debug, PartialEq, Eq)]
@@ -60,13 +61,6 @@ fn kept_name(head: &Head, number: u32) -> u32
     if number == 0 { 0 } else { head.name }
 }
 
-/// The first byte of a name, or the zero byte after an empty one.
-fn first_byte(name: &str) -> u8
-    ensures { (rest : List ℕ) → get_or (name.now ++ 0 ∷ rest) 0 0 ≡ result }
-{
-    name.as_bytes().first().copied().unwrap_or(0)
-}
-
 /// Whether a type with this head has another kind than the one of this number, or a name that begins with another byte.
 /// One branch tells most types from the one that is sought; a processor does not predict a branch on the kind alone.
 #[inline(always)]
@@ -95,7 +89,7 @@ pub(crate) fn find_in(
         (λ records. LooksUp strings.now records (kinds.kind kind) name.now result) }
 {
     let number = number_of(kind);
-    let end = comparable_end(strings, name);
+    let end = comparable_end_in(strings, name);
     let readable = readable_bytes(strings, end);
     let first = first_byte(name);
     let ids = places.len().min(u32::MAX as usize);

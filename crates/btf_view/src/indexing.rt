@@ -3,9 +3,9 @@
 ghost use Rattle.std.specs.Prelude.{◌≡◌, ◌≤◌, length, set};
 ghost use Rattle.btf_view.specs.Index.{FillsPlaces, IndexesBlob};
 
-use crate::header::{Header, section};
 use crate::length::record_len;
 use btf_plain::{BtfError, Endianness};
+use btf_table::{Header, section};
 use thiserror::Error;
 
 /// What a pass over a blob finds: the header's values, where both sections are in the blob, and the number of types.

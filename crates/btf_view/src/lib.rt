@@ -4,7 +4,6 @@
 mod filling;
 mod finding;
 mod forms;
-mod header;
 mod indexing;
 mod items;
 mod length;
@@ -23,7 +22,5 @@ pub use indexing::{Sections, Unindexed, index};
 pub use items::Listed;
 pub use record_words::RecordWords;
 pub use table_ref::TableRef;
-pub use text::readable_end;
 pub use type_ref::TypeRef;
 pub use view::View;
-pub use walk::WALK_LIMIT;

@@ -1,28 +1,18 @@
 //! The size of a type.
 
-ghost use Rattle.std.specs.Prelude.{◌≡◌, ◌*◌, ◌+◌, ◌<◌, ◌≤◌, ◌^◌, List, Some, MatchResult};
+ghost use Rattle.std.specs.Prelude.{◌≡◌, ◌+◌, List, Some};
 ghost use Rattle.btf_model.specs.Record.{Array, Record, kind_of};
 ghost use Rattle.btf_model.specs.Walk as model;
 ghost use Rattle.btf_model.specs.Walk.{HasSize};
 ghost use Rattle.btf_plain.specs.Error.{Meets};
-ghost use Rattle.btf_view.specs.Extent.{model_extent};
+ghost use Rattle.btf_table.specs.Extent.{extent_of};
 ghost use Rattle.btf_view.specs.Many.{FillsSizes, SizeOrMost};
 ghost use Rattle.btf_view.specs.Places.{ForRecords, IsRecordAt};
 
 use crate::record::{raw_head_at, word_at};
-use crate::walk::{WALK_LIMIT, places_from};
+use crate::walk::places_from;
 use btf_plain::{BtfError, BtfKind, Endianness};
-
-/// What a type gives for its size.
-#[derive(Clone, Copy)]
-pub(crate) enum Extent {
-    /// The size is this number of bytes.
-    Bytes(u32),
-    /// The size is `count` times the size of another type.
-    Times(u32, u32),
-    /// The type gives no size.
-    Nothing,
-}
+use btf_table::{Extent, WALK_LIMIT, product};
 
 /// How a type gives its size. There are only three ways, because the compiler makes a jump table of a match with more,
 /// and a processor does not predict which way such a jump goes.
@@ -77,7 +67,7 @@ static SIZINGS: [Sizing; 32] = [
 #[inline(always)]
 fn array_extent(types: &[u8], place: u32, endianness: Endianness) -> Extent
     ensures { (r : Record) → IsRecordAt endianness types.now place r
-        → kind_of r.info ≡ Some Array → model_extent result ≡ model.array_extent r.tail }
+        → kind_of r.info ≡ Some Array → extent_of result ≡ model.array_extent r.tail }
 {
     let at = place as usize + 12;
     if types.len() < at + 12 {
@@ -91,7 +81,7 @@ fn array_extent(types: &[u8], place: u32, endianness: Endianness) -> Extent
 #[inline(always)]
 fn extent_at(types: &[u8], place: u32, endianness: Endianness) -> Extent
     ensures { (r : Record) → IsRecordAt endianness types.now place r
-        → model_extent result ≡ model.extent (kind_of r.info) r }
+        → extent_of result ≡ model.extent (kind_of r.info) r }
 {
     let head = raw_head_at(types, place, endianness);
     let kind = head.kind();
@@ -102,20 +92,6 @@ fn extent_at(types: &[u8], place: u32, endianness: Endianness) -> Extent
         Sizing::Referred => Extent::Times(1, head.third),
         Sizing::Other if kind == BtfKind::Array as u32 => array_extent(types, place, endianness),
         Sizing::Other => Extent::Nothing,
-    }
-}
-
-/// The product, or `InvalidTypeInfo` if it exceeds 32 bits.
-#[inline(always)]
-fn product(a: u32, b: u32) -> Result<u32, BtfError>
-    ensures { MatchResult result
-        (λ n. (n ≡ a * b) × (a * b < 2 ^ 32))
-        (λ e. (2 ^ 32 ≤ a * b) × (e ≡ BtfError.InvalidTypeInfo)) }
-{
-    // By a match: `ok_or` would be a call for each type.
-    match a.checked_mul(b) {
-        Some(product) => Ok(product),
-        None => Err(BtfError::InvalidTypeInfo),
     }
 }
 

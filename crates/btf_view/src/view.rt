@@ -4,7 +4,7 @@ ghost use Rattle.std.specs.Prelude.{◌≡◌, List, slice_get};
 ghost use Rattle.btf_model.specs.Record.{Record};
 ghost use Rattle.btf_model.specs.Walk.{Resolves, HasSize};
 ghost use Rattle.std.specs.Option.{option_map};
-ghost use Rattle.btf_model.specs.Text.{bytes_at};
+ghost use Rattle.btf_model.specs.Text as texts;
 ghost use Rattle.btf_plain.specs.Error.{Meets};
 ghost use Rattle.btf_plain.specs.Kind as kinds;
 ghost use Rattle.btf_view.specs.Finding.{LooksUp};
@@ -21,11 +21,11 @@ use crate::forms::{Entry, Member, Param, TypeWords, Variant};
 use crate::record::{Parts, head_at, parts_at};
 use crate::record_words::RecordWords;
 use crate::sizing::{fill_sizes, size_of};
-use crate::text::name_at;
 use crate::walk::{fill_resolved, resolve_from};
 use btf_plain::{
     BtfEnum, BtfEnum64, BtfError, BtfKind, BtfMember, BtfParam, DataSecEntry, Endianness, Head,
 };
+use btf_table::bytes_at;
 
 /// A view of a table: the bytes of both sections, and the places of the records, which `index` finds.
 #[derive(Clone, Copy)]
@@ -167,9 +167,9 @@ impl<'a> View<'a> {
     /// The bytes of the name at a string offset, up to the first zero byte; they need not be UTF-8. None if there is no
     /// zero byte at the offset or after it.
     pub fn name(&self, offset: u32) -> Option<&'a [u8]>
-        ensures { option_map (λ b. b.now) result ≡ bytes_at self.now.strings.now offset }
+        ensures { option_map (λ b. b.now) result ≡ texts.bytes_at self.now.strings.now offset }
     {
-        name_at(self.strings, offset)
+        bytes_at(self.strings, offset, 0)
     }
 
     /// The least id of a type of this kind and name, as `Btf::id_by_type_name_kind` gives it.

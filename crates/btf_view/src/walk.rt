@@ -12,9 +12,7 @@ ghost use Rattle.btf_view.specs.Record.{IsReadAs};
 
 use crate::record::raw_head_at;
 use btf_plain::{BtfError, BtfKind, Endianness, Head};
-
-/// The maximum number of types that a walk visits.
-pub const WALK_LIMIT: usize = 32;
+use btf_table::WALK_LIMIT;
 
 /// The id of the type that a modifier of this kind describes, by its third word; None for another kind.
 #[inline(always)]

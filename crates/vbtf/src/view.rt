@@ -20,9 +20,9 @@ ghost use Rattle.vbtf.specs.View.{EndsLookingUp, EndsIndexingBlob, ForPlaces, Is
 use crate::fault::{Fault, INVALID_ARGUMENT, NAME_ROOM, NO_ROOM, report, write};
 use crate::orders::{choose_order, number_of, order_of};
 use btf_plain::{BtfError, BtfKind};
+use btf_table::readable_end;
 use btf_view::{
     Entry, Lookup, Member, Param, Sections, TypeWords, Unindexed, Variant, View, index,
-    readable_end,
 };
 
 /// What a blob has: its byte order, its header's values, where its sections are, and the number of its types.

@@ -109,7 +109,8 @@ fn any_text_at(
     Ok(BtfStr::Owned(text))
 }
 
-/// The end of the offsets at which a text can be read: for each lower offset there is a zero byte at it or after it.
+/// The end of the offsets of a string section at which a text can be read: for each lower offset there is a zero byte
+/// at it or after it.
 pub fn readable_end(strings: &[u8]) -> usize
     ensures { IsReadableEnd strings.now result }
 {
@@ -120,6 +121,7 @@ pub fn readable_end(strings: &[u8]) -> usize
 }
 
 /// The strings from an offset on.
+#[inline(always)]
 pub fn strings_from(strings: &[u8], offset: u32) -> &[u8]
     ensures { result.now ≡ drop offset strings.now }
 {
@@ -142,8 +144,10 @@ fn is_comparable(name: &str) -> bool
     bytes.find_byte(0).is_none() && bytes.find_byte(0xef).is_none()
 }
 
-/// The readable end of the strings if a name can be compared with bytes, else None.
-pub fn comparable_end(strings: &[u8], name: &str) -> Option<usize>
+/// The readable end of the strings if a name can be compared with bytes, else None. A call of its own keeps its values
+/// out of the registers of a search.
+#[inline(never)]
+pub fn comparable_end_in(strings: &[u8], name: &str) -> Option<usize>
     ensures { IfSome result (λ end. IsReadableEnd strings.now end × IsComparable name.now) }
 {
     if is_comparable(name) {
@@ -165,7 +169,8 @@ fn begins_otherwise(bytes: &[u8], name: &[u8]) -> bool
 }
 
 /// Whether this name and a zero byte are at an offset. No more bytes than these are read.
-fn has_name_at(strings: &[u8], offset: u32, name: &str) -> bool
+#[inline(always)]
+pub fn has_name_at(strings: &[u8], offset: u32, name: &str) -> bool
     ensures { IsTrue result ↔ HasNameAt strings.now offset name.now }
 {
     let rest = strings_from(strings, offset);
@@ -210,7 +215,7 @@ pub fn has_name(
 }
 
 /// The bytes at whose offsets a text can be read, if names are compared with bytes; else none.
-fn readable_bytes(strings: &[u8], readable_end: Option<usize>) -> &[u8]
+pub fn readable_bytes(strings: &[u8], readable_end: Option<usize>) -> &[u8]
     ensures { MatchOption readable_end (result.now ≡ [])
         (λ end. result.now ≡ take end strings.now) }
 {
@@ -221,7 +226,7 @@ fn readable_bytes(strings: &[u8], readable_end: Option<usize>) -> &[u8]
 }
 
 /// The first byte of a name, or the zero byte after an empty one.
-fn first_byte(name: &str) -> u8
+pub fn first_byte(name: &str) -> u8
     ensures { (rest : List ℕ) → get_or (name.now ++ 0 ∷ rest) 0 0 ≡ result }
 {
     name.as_bytes().first().copied().unwrap_or(0)
@@ -276,7 +281,7 @@ pub fn find_named(
     ensures { MeetsOrNoMemory (λ id. id) result
         (FindsName strings.now (map record_of types.now) (kinds.kind kind) name.now) }
 {
-    let readable_end = comparable_end(strings, name);
+    let readable_end = comparable_end_in(strings, name);
     let readable = readable_bytes(strings, readable_end);
     let first = first_byte(name);
     for (id, btf_type) in types.iter().enumerate() {

@@ -61,8 +61,8 @@ fn modified_type(btf_type: &BtfType) -> Option<u32>
 }
 
 /// What a type gives for its size.
-#[derive(Drop)]
-enum Extent {
+#[derive(Clone, Copy)]
+pub enum Extent {
     /// The size is this number of bytes.
     Bytes(u32),
     /// The size is `count` times the size of another type.
@@ -127,7 +127,8 @@ fn extent_at(btf_type: &BtfType) -> Extent
 }
 
 /// The product, or `InvalidTypeInfo` if it exceeds 32 bits.
-fn product(a: u32, b: u32) -> Result<u32, BtfError>
+#[inline(always)]
+pub fn product(a: u32, b: u32) -> Result<u32, BtfError>
     ensures { MatchResult result
         (λ n. (n ≡ a * b) × (a * b < 2 ^ 32))
         (λ e. (2 ^ 32 ≤ a * b) × (e ≡ BtfError.InvalidTypeInfo)) }

@@ -15,8 +15,8 @@ loop-id-preserved-then-is_other c records h =
     let places = c.args.places.now in
     let low : c.loop-id.id < length places = omega (arith, c.loop-id-test.true, c.min-ids.ensures, min-le_left (length places) 4294967295) in
     let s = seen_at c.args.endianness c.args.types.now places records c.loop-id.id c.raw_head_at-raw.result h low c.raw_head_at-raw.ensures in
-    passed_other c.args.strings.now c.readable_bytes-readable.result.now records c.loop-id.id c.number_of-number.result c.first_byte-first.result c.comparable_end-end.result c.raw_head_at-raw.result (kinds.kind c.args.kind) c.args.name.now s c.number_of-number.ensures c.if-number-ne0.true
-    c.comparable_end-end.ensures c.readable_bytes-readable.ensures c.utf8.name c.first_byte-first.ensures (c.if-is_other.ensures refl) (c.loop-id.invariant records h)
+    passed_other c.args.strings.now c.readable_bytes-readable.result.now records c.loop-id.id c.number_of-number.result c.first_byte-first.result c.comparable_end_in-end.result c.raw_head_at-raw.result (kinds.kind c.args.kind) c.args.name.now s c.number_of-number.ensures c.if-number-ne0.true
+    c.comparable_end_in-end.ensures c.readable_bytes-readable.ensures c.utf8.name c.first_byte-first.ensures (c.if-is_other.ensures refl) (c.loop-id.invariant records h)
 
 pub loop-id-preserved-then-kind-number : goal.loop-id-preserved-then-kind-number
 loop-id-preserved-then-kind-number c records h =

@@ -25,7 +25,7 @@ loop-id-preserved-then-begins_otherwise_at c =
     passed_one c.args.strings.now (map record_of types) (kinds.kind c.args.kind) c.args.name.now c.loop-id.id (record_of t) c.loop-id.invariant
     (record_at types c.loop-id.id t c.loop-id-test.true c.index-types-id.is)
     (inr (subst (λ (o : ℕ). HasName c.args.strings.now o c.args.name.now (Ok false)) c.name_offset.ensures.value
-    (begins_otherwise c.args.strings.now c.args.name.now c.readable_bytes-readable.result.now c.name_offset.result c.first_byte-first.result byte.0 c.comparable_end-readable_end.result c.comparable_end-readable_end.ensures c.readable_bytes-readable.ensures c.utf8.name c.first_byte-first.ensures byte.1 byte.2)))
+    (begins_otherwise c.args.strings.now c.args.name.now c.readable_bytes-readable.result.now c.name_offset.result c.first_byte-first.result byte.0 c.comparable_end_in-readable_end.result c.comparable_end_in-readable_end.ensures c.readable_bytes-readable.ensures c.utf8.name c.first_byte-first.ensures byte.1 byte.2)))
 
 pub returns-then-branch : goal.returns-then-branch
 returns-then-branch c =
