@@ -51,24 +51,16 @@ pub from_err : {A : Type 0} (r : Result A RelocationError) (e : RelocationError)
 from_err r e same = let given = err_from_is_err_and r same in given.1 ∙ ap (λ (x : RelocationError). Err x) given.2
 
 -- two types that are both ARRAYs, or not
-abbrev pub AreArrays : Kind → Kind → Type 0
-AreArrays k q = (k ≡ Array) × (q ≡ Array)
+abbrev pub AreNotArrays : Option Kind → Option Kind → Type 0
+AreNotArrays k q = (k ≡ Some Array) × (q ≡ Some Array) → ⊥
 
-abbrev pub AreNotArrays : Kind → Kind → Type 0
-AreNotArrays k q = AreArrays k q → ⊥
-
-by_kinds : (further : ℕ → ℕ → Result Bool RelocationError) (local target : Table) (k q : Kind) (r s : Record) → AreNotArrays k q
-    → compatible_by further local target (Some k) (Some q) r s ≡ alike local target r s
-by_kinds further local target Array Array r s apart = absurd (apart (refl, refl))
-by_kinds further local target Array q r s apart = refl
-by_kinds further local target k q r s apart = refl
-
-pub not_arrays : (further : ℕ → ℕ → Result Bool RelocationError) (local target : Table) (k q : Kind) (r s : Record) → kind_of r.info ≡ Some k → kind_of s.info ≡ Some q → AreNotArrays k q
-    → compatible_by further local target (kind_of r.info) (kind_of s.info) r s ≡ alike local target r s
-not_arrays further local target k q r s is other apart = ap (λ (o : Option Kind). compatible_by further local target o (kind_of s.info) r s) is
-    ∙ ap (λ (o : Option Kind). compatible_by further local target (Some k) o r s) other ∙ by_kinds further local target k q r s apart
+pub not_arrays : (further : ℕ → ℕ → Result Bool RelocationError) (local target : Table) (k q : Option Kind) (r s : Record) → AreNotArrays k q
+    → compatible_by further local target k q r s ≡ alike local target r s
+not_arrays further local target (Some Array) (Some Array) r s apart = absurd (apart (refl, refl))
+not_arrays further local target (Some Array) q r s apart = refl
+not_arrays further local target k q r s apart = refl
 
 -- two ARRAYs
-pub arrays : (further : ℕ → ℕ → Result Bool RelocationError) (local target : Table) (k q : Kind) (r s : Record) → kind_of r.info ≡ Some k → kind_of s.info ≡ Some q → AreArrays k q
-    → compatible_by further local target (kind_of r.info) (kind_of s.info) r s ≡ further (element_type r) (element_type s)
-arrays further local target k q r s is other both = rw (is, other, both.0, both.1) refl
+pub arrays : (further : ℕ → ℕ → Result Bool RelocationError) (local target : Table) (k q : Option Kind) (r s : Record) → k ≡ Some Array → q ≡ Some Array
+    → compatible_by further local target k q r s ≡ further (element_type r) (element_type s)
+arrays further local target k q r s is other = rw (is, other) refl

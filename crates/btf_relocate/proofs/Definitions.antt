@@ -1,20 +1,17 @@
 -- Definitions of two types, parameter by parameter, member by member and enumerator by enumerator.
-use Rattle.std.proofs.Common.{◌≡◌, ℕ, zero, suc, ◌+◌, ◌<◌, ◌≤◌, List, [], ◌∷◌, ◌++◌, length, drop, map, Bool, true, false, cond, Option, Some, None, Result, Ok, Err, refl, sym, ap, ◌∙◌, inl, inr, arith, append_assoc}
+use Rattle.std.proofs.Common.{◌≡◌, ℕ, ◌+◌, ◌<◌, ◌≤◌, List, [], ◌∷◌, ◌++◌, length, drop, Bool, true, false, cond, Option, Some, None, Result, Ok, Err, refl, sym, ap, ◌∙◌, inl, inr, arith, append_assoc}
 use Rattle.std.specs.Prelude.{◌⊎◌, ◌==◌, ◌||◌, nat_lt, slice_get}
 use Rattle.std.specs.Borrow.{Bor}
 use Rattle.std.specs.BTreeSet.{BTreeSet, IsEmpty, Updates}
 use Rattle.std.specs.Cmp.Lexicographic.{slice_cmp}
-use Rattle.std.specs.List.{flat_map, list_any}
+use Rattle.std.specs.List.{list_any}
 use Rattle.std.specs.Ordering.{nat_cmp}
 use Rattle.std.specs.Str.{bytes_eq}
 use Rattle.std.proofs.lemmas.Bool.Decides.{nat_tests}
-use Rattle.std.proofs.lemmas.List.{drop_all, length-map, append-nil}
+use Rattle.std.proofs.lemmas.List.{drop_all, append-nil}
 use Rattle.std.proofs.lemmas.List.Folds.{list_any-append}
 use Rattle.std.proofs.lemmas.Map.Text.{is_eq-slice_cmp}
-use Rattle.btf_plain.specs.Items.{param_words}
-use Rattle.btf_plain.specs.declared.items.BtfParam.{BtfParam}
-use Rattle.btf_plain.specs.declared.items.BtfMember.{BtfMember}
-use Rattle.btf_model.specs.Record.{Record}
+use Rattle.btf_model.specs.Record.{Kind, FuncProto, Record, kind_of}
 use Rattle.btf_model.specs.Table.{Table, Variant}
 use Rattle.btf_relocate_model.specs.Comparison as model
 use Rattle.btf_relocate_model.specs.Comparison.{parameter_ids, prototype_step, pair, all_among, essential_names, enumerators_of, named_enumerators, some_member, each_member, each_parameter, names_match}
@@ -23,8 +20,8 @@ use Rattle.btf_relocate_model.specs.Name.{essential}
 use Rattle.btf_relocate_model.specs.Types.{◌>>=◌, name_at}
 use Rattle.btf_relocate_model.specs.declared.comparison.Pair.{Pair}
 use Rattle.btf_relocate_model.specs.declared.error.RelocationError.{RelocationError}
-use Rattle.btf_relocate.specs.Members.{member_of}
-use Rattle.btf_relocate.specs.Steps.{Compare, next_index, HasNames, has_name, type_of, resumed, from_member, place_after}
+use Rattle.btf_relocate.specs.Members.{parameters_by, parameters_of}
+use Rattle.btf_relocate.specs.Steps.{Compare, next_index, HasNames, has_name, resumed, from_member, place_after}
 use Rattle.btf_relocate.proofs.Enumerators.{at_index}
 
 -- ---- parameters
@@ -34,58 +31,36 @@ abbrev pub is_refusal : Option Bool → Bool
 is_refusal (Some false) = true
 is_refusal answer = false
 
-params_back : (ps : List BtfParam) → parameter_ids (flat_map param_words ps) ≡ map type_of ps
-params_back [] = refl
-params_back (p ∷ ps) = ap (λ (ts : List ℕ). type_of p ∷ ts) (params_back ps)
+-- two FUNC_PROTOs with these numbers of parameters
+module _ (b : Bool) (r s : Record) (n m : ℕ) (one : n ≡ length (parameters_of r)) (two : m ≡ length (parameters_of s)) (one_is : kind_of r.info ≡ Some FuncProto) (two_is : kind_of s.info ≡ Some FuncProto) where
+  first : parameters_of r ≡ parameter_ids r.tail
+  first = ap (λ (k : Option Kind). parameters_by k r.tail) one_is
 
-types_of : (tail : List ℕ) (ps : List BtfParam) → tail ≡ flat_map param_words ps → parameter_ids tail ≡ map type_of ps
-types_of tail ps is = ap parameter_ids is ∙ params_back ps
+  second : parameters_of s ≡ parameter_ids s.tail
+  second = ap (λ (k : Option Kind). parameters_by k s.tail) two_is
 
-equal_count : (ps qs : List BtfParam) → length ps ≡ length qs → (length (map type_of ps) == length (map type_of qs)) ≡ true
-equal_count ps qs same =
-    let one : length (map type_of ps) ≡ length ps = length-map ps type_of in
-    let two : length (map type_of qs) ≡ length qs = length-map qs type_of in
-    grind (arith, nat_tests)
+  pub prototypes_differ : (n ≡ m → ⊥) → model.Ends false ≡ prototype_step b r s
+  prototypes_differ differ =
+      let here : n ≡ length (parameter_ids r.tail) = one ∙ ap length first in
+      let there : m ≡ length (parameter_ids s.tail) = two ∙ ap length second in
+      let other : (length (parameter_ids r.tail) == length (parameter_ids s.tail)) ≡ false = grind (arith, nat_tests) in
+      rw other refl
 
-other_count : (ps qs : List BtfParam) → (length ps ≡ length qs → ⊥) → (length (map type_of ps) == length (map type_of qs)) ≡ false
-other_count ps qs differ =
-    let one : length (map type_of ps) ≡ length ps = length-map ps type_of in
-    let two : length (map type_of qs) ≡ length qs = length-map qs type_of in
-    grind (arith, nat_tests)
+  pub prototypes_same : n ≡ m → (p : Pair) → p ≡ pair b r.third s.third → model.EachParameter (parameters_of r) (parameters_of s) p ≡ prototype_step b r s
+  prototypes_same same p is =
+      let here : n ≡ length (parameter_ids r.tail) = one ∙ ap length first in
+      let there : m ≡ length (parameter_ids s.tail) = two ∙ ap length second in
+      let equal : (length (parameter_ids r.tail) == length (parameter_ids s.tail)) ≡ true = grind (arith, nat_tests) in
+      (λ i. model.EachParameter (first i) (second i) (is i)) ∙ rw equal refl
 
-pub prototypes_differ : (b : Bool) (r s : Record) (ps qs : List BtfParam) → r.tail ≡ flat_map param_words ps → s.tail ≡ flat_map param_words qs → (length ps ≡ length qs → ⊥)
-    → model.Ends false ≡ prototype_step b r s
-prototypes_differ b r s ps qs one two differ =
-    let first : parameter_ids r.tail ≡ map type_of ps = types_of r.tail ps one in
-    let second : parameter_ids s.tail ≡ map type_of qs = types_of s.tail qs two in
-    rw (first, second, other_count ps qs differ) refl
-
-pub prototypes_same : (b : Bool) (r s : Record) (ps qs : List BtfParam) (p : Pair) → r.tail ≡ flat_map param_words ps → s.tail ≡ flat_map param_words qs → length ps ≡ length qs → p ≡ pair b r.third s.third
-    → model.EachParameter (map type_of ps) (map type_of qs) p ≡ prototype_step b r s
-prototypes_same b r s ps qs p one two same is =
-    let first : parameter_ids r.tail ≡ map type_of ps = types_of r.tail ps one in
-    let second : parameter_ids s.tail ≡ map type_of qs = types_of s.tail qs two in
-    rw (first, second, equal_count ps qs same) (ap (model.EachParameter (map type_of ps) (map type_of qs)) is)
-
-drop_map : {A B : Type 0} (f : A → B) (i : ℕ) (xs : List A) → drop i (map f xs) ≡ map f (drop i xs)
-drop_map f zero xs = refl
-drop_map f (suc i) [] = refl
-drop_map f (suc i) (x ∷ xs) = drop_map f i xs
-
-here_mapped : {A B : Type 0} (f : A → B) (i : ℕ) (xs : List A) (x : A) → drop i xs ≡ x ∷ drop (i + 1) xs → drop i (map f xs) ≡ f x ∷ drop (i + 1) (map f xs)
-here_mapped f i xs x here = drop_map f i xs ∙ ap (map f) here ∙ ap (λ ys. f x ∷ ys) (sym (drop_map f (i + 1) xs))
-
-none_mapped : {A B : Type 0} (f : A → B) (i : ℕ) (xs : List A) → length xs ≤ i → drop i (map f xs) ≡ []
-none_mapped f i xs le = drop_map f i xs ∙ ap (map f) (drop_all i xs le)
-
-module _ (inner further : Compare) (local target : Table) (ps qs : List BtfParam) (p : Pair) (i j : ℕ) where
+module _ (inner further : Compare) (local target : Table) (ps qs : List ℕ) (p : Pair) (i j : ℕ) where
   abbrev Parameters : Option Bool → Result Bool RelocationError
-  Parameters a = resumed inner further local target (model.EachParameter (map type_of ps) (map type_of qs) p) i j a
+  Parameters a = resumed inner further local target (model.EachParameter ps qs p) i j a
 
   abbrev Not : Option Bool → Type 0
   Not a = is_refusal a ≡ false
 
-  each_from : (a : Option Bool) → Not a → Parameters a ≡ each_parameter inner further p (drop i (map type_of ps)) (drop i (map type_of qs))
+  each_from : (a : Option Bool) → Not a → Parameters a ≡ each_parameter inner further p (drop i ps) (drop i qs)
   each_from (Some true) other = refl
   each_from (Some false) other = absurd (cc)
   each_from None other = refl
@@ -97,49 +72,49 @@ module _ (inner further : Compare) (local target : Table) (ps qs : List BtfParam
   last_with (t ∷ ts) (u ∷ us) (inr none) = absurd (cc)
 
   pub last_parameter : (a : Option Bool) → Not a → (length ps ≤ i) ⊎ (length qs ≤ i) → further p ≡ Parameters a
-  last_parameter a other (inl le) = sym (each_from a other ∙ last_with (drop i (map type_of ps)) (drop i (map type_of qs)) (inl (none_mapped type_of i ps le)))
-  last_parameter a other (inr le) = sym (each_from a other ∙ last_with (drop i (map type_of ps)) (drop i (map type_of qs)) (inr (none_mapped type_of i qs le)))
+  last_parameter a other (inl le) = sym (each_from a other ∙ last_with (drop i ps) (drop i qs) (inl (drop_all i ps le)))
+  last_parameter a other (inr le) = sym (each_from a other ∙ last_with (drop i ps) (drop i qs) (inr (drop_all i qs le)))
 
-  then_parameters : (k : ℕ) → k ≡ i + 1 → (b : Bool) → resumed inner further local target (model.EachParameter (map type_of ps) (map type_of qs) p) k 0 (Some b)
-      ≡ cond b (each_parameter inner further p (drop (i + 1) (map type_of ps)) (drop (i + 1) (map type_of qs))) (Ok false)
-  then_parameters k is true = ap (λ (n : ℕ). each_parameter inner further p (drop n (map type_of ps)) (drop n (map type_of qs))) is
+  then_parameters : (k : ℕ) → k ≡ i + 1 → (b : Bool) → resumed inner further local target (model.EachParameter ps qs p) k 0 (Some b)
+      ≡ cond b (each_parameter inner further p (drop (i + 1) ps) (drop (i + 1) qs)) (Ok false)
+  then_parameters k is true = ap (λ (n : ℕ). each_parameter inner further p (drop n ps) (drop n qs)) is
   then_parameters k is false = refl
 
-  each_bound : (o : Result Bool RelocationError) (k : ℕ) → k ≡ i + 1 → (o >>= λ b. resumed inner further local target (model.EachParameter (map type_of ps) (map type_of qs) p) k 0 (Some b))
-      ≡ (o >>= λ b. cond b (each_parameter inner further p (drop (i + 1) (map type_of ps)) (drop (i + 1) (map type_of qs))) (Ok false))
+  each_bound : (o : Result Bool RelocationError) (k : ℕ) → k ≡ i + 1 → (o >>= λ b. resumed inner further local target (model.EachParameter ps qs p) k 0 (Some b))
+      ≡ (o >>= λ b. cond b (each_parameter inner further p (drop (i + 1) ps) (drop (i + 1) qs)) (Ok false))
   each_bound (Ok b) k is = then_parameters k is b
   each_bound (Err e) k is = refl
 
-  pub next_parameter : (a : Option Bool) → Not a → (x y : BtfParam) → drop i ps ≡ x ∷ drop (i + 1) ps → drop i qs ≡ y ∷ drop (i + 1) qs → (k : ℕ) → k ≡ i + 1
-      → (inner (pair p.is_pointee x.btf_type y.btf_type) >>= λ b. resumed inner further local target (model.EachParameter (map type_of ps) (map type_of qs) p) k 0 (Some b)) ≡ Parameters a
+  pub next_parameter : (a : Option Bool) → Not a → (x y : ℕ) → drop i ps ≡ x ∷ drop (i + 1) ps → drop i qs ≡ y ∷ drop (i + 1) qs → (k : ℕ) → k ≡ i + 1
+      → (inner (pair p.is_pointee x y) >>= λ b. resumed inner further local target (model.EachParameter ps qs p) k 0 (Some b)) ≡ Parameters a
   next_parameter a other x y first second k is =
-      each_bound (inner (pair p.is_pointee x.btf_type y.btf_type)) k is
+      each_bound (inner (pair p.is_pointee x y)) k is
       ∙ sym (each_from a other
-      ∙ ap (λ (ts : List ℕ). each_parameter inner further p ts (drop i (map type_of qs))) (here_mapped type_of i ps x first)
-      ∙ ap (λ (us : List ℕ). each_parameter inner further p (type_of x ∷ drop (i + 1) (map type_of ps)) us) (here_mapped type_of i qs y second))
+      ∙ ap (λ (ts : List ℕ). each_parameter inner further p ts (drop i qs)) first
+      ∙ ap (λ (us : List ℕ). each_parameter inner further p (x ∷ drop (i + 1) ps) us) second)
 
 -- ---- members of the target with the name of a local member
 
-module _ (local target : Table) (m : Member) (others : List BtfMember) (i : ℕ) where
+module _ (local target : Table) (m : Member) (others : List Member) (i : ℕ) where
   abbrev pub Same : ℕ → Type 0
-  Same from = (inner : Compare) → some_member inner local target m (drop from (map member_of others)) ≡ some_member inner local target m (drop i (map member_of others))
+  Same from = (inner : Compare) → some_member inner local target m (drop from others) ≡ some_member inner local target m (drop i others)
 
-  module _ (from : ℕ) (same : Same from) (o : BtfMember) (here : drop i others ≡ o ∷ drop (i + 1) others) (inner : Compare) where
-    at_member : some_member inner local target m (drop from (map member_of others)) ≡ some_member inner local target m (member_of o ∷ drop (i + 1) (map member_of others))
-    at_member = same inner ∙ ap (some_member inner local target m) (here_mapped member_of i others o here)
+  module _ (from : ℕ) (same : Same from) (o : Member) (here : drop i others ≡ o ∷ drop (i + 1) others) (inner : Compare) where
+    at_member : some_member inner local target m (drop from others) ≡ some_member inner local target m (o ∷ drop (i + 1) others)
+    at_member = same inner ∙ ap (some_member inner local target m) here
 
-    pub no_name : (e : RelocationError) → names_match local target m.name o.name_offset ≡ Err e → some_member inner local target m (drop from (map member_of others)) ≡ Err e
+    pub no_name : (e : RelocationError) → names_match local target m.name o.name ≡ Err e → some_member inner local target m (drop from others) ≡ Err e
     no_name e is = at_member ∙ rw is refl
 
-    pub with_name : names_match local target m.name o.name_offset ≡ Ok true → (k : ℕ) → k ≡ i + 1 → some_member inner local target m (drop from (map member_of others))
-        ≡ (inner (pair false m.type o.btf_type) >>= λ b. cond b (Ok true) (some_member inner local target m (drop k (map member_of others))))
+    pub with_name : names_match local target m.name o.name ≡ Ok true → (k : ℕ) → k ≡ i + 1 → some_member inner local target m (drop from others)
+        ≡ (inner (pair false m.type o.type) >>= λ b. cond b (Ok true) (some_member inner local target m (drop k others)))
     with_name is k next = rw next (at_member ∙ rw is refl)
 
-    pub other_name : names_match local target m.name o.name_offset ≡ Ok false → some_member inner local target m (drop from (map member_of others)) ≡ some_member inner local target m (drop (i + 1) (map member_of others))
+    pub other_name : names_match local target m.name o.name ≡ Ok false → some_member inner local target m (drop from others) ≡ some_member inner local target m (drop (i + 1) others)
     other_name is = at_member ∙ rw is refl
 
-  pub no_more : (from : ℕ) → Same from → length others ≤ i → (inner : Compare) → some_member inner local target m (drop from (map member_of others)) ≡ Ok false
-  no_more from same le inner = same inner ∙ ap (some_member inner local target m) (none_mapped member_of i others le)
+  pub no_more : (from : ℕ) → Same from → length others ≤ i → (inner : Compare) → some_member inner local target m (drop from others) ≡ Ok false
+  no_more from same le inner = same inner ∙ ap (some_member inner local target m) (drop_all i others le)
 
 -- ---- names of enumerators
 
@@ -231,61 +206,56 @@ one_more_name t vs old new i sofar v is name key read same updates = record {
         ∙ either (bytes_eq q.now (essential name)) (list_any (bytes_eq q.now) sofar.found) true
         ∙ sym (list_any-append (bytes_eq q.now) sofar.found (essential name ∷ []))
 
-pub none_at : (vs : List Variant) (i : ℕ) → None ≡ slice_get vs i → length vs ≤ i
-none_at [] i none = omega arith
-none_at (v ∷ vs) zero none = absurd (cc)
-none_at (v ∷ vs) (suc i) none = omega (arith, none_at vs i none)
-
 pub has_it : (set : BTreeSet (Bor (List ℕ))) (all : List (List ℕ)) → HasNames set all → (key : Bor (List ℕ)) (name : List ℕ) (b : Bool) → b ≡ has_name set key → key.now ≡ essential name
     → list_any (bytes_eq (essential name)) all ≡ b
 has_it set all has key name b is same = ap (λ (bs : List ℕ). list_any (bytes_eq bs) all) (sym same) ∙ sym (has key) ∙ sym is
 
 -- a local member that needs one of these others
-next_index_within : (i n : ℕ) → i < n → n ≤ 18446744073709551615 → next_index i ≡ i + 1
-next_index_within i n lt le = let less : i < 18446744073709551615 = omega (arith, lt, le) in grind (arith, nat_tests)
+next_index_within : (i : ℕ) → i < 18446744073709551615 → next_index i ≡ i + 1
+next_index_within i lt = grind (arith, nat_tests)
 
-module _ (inner further : Compare) (local target : Table) (ms others : List BtfMember) (i j : ℕ) (a : Option Bool) where
+module _ (inner further : Compare) (local target : Table) (ms others : List Member) (i j : ℕ) (a : Option Bool) where
   abbrev Members : ℕ → ℕ → Option Bool → Result Bool RelocationError
-  Members k l b = resumed inner further local target (model.EachMember (map member_of ms) (map member_of others)) k l b
+  Members k l b = resumed inner further local target (model.EachMember ms others) k l b
 
   module _ (place : ℕ × ℕ) (is : place ≡ place_after i j a) where
-    members_at : Members i j a ≡ from_member inner local target (map member_of others) (drop place.1 (map member_of others)) (drop place.0 (map member_of ms))
-    members_at = ap (λ (p : ℕ × ℕ). from_member inner local target (map member_of others) (drop p.1 (map member_of others)) (drop p.0 (map member_of ms))) (sym is)
+    members_at : Members i j a ≡ from_member inner local target others (drop place.1 others) (drop place.0 ms)
+    members_at = ap (λ (p : ℕ × ℕ). from_member inner local target others (drop p.1 others) (drop p.0 ms)) (sym is)
 
     pub members_over : length ms ≤ place.0 → Ok true ≡ Members i j a
-    members_over le = sym (members_at ∙ ap (from_member inner local target (map member_of others) (drop place.1 (map member_of others))) (none_mapped member_of place.0 ms le))
+    members_over le = sym (members_at ∙ ap (from_member inner local target others (drop place.1 others)) (drop_all place.0 ms le))
 
-    module _ (m : BtfMember) (here : drop place.0 ms ≡ m ∷ drop (place.0 + 1) ms) where
+    module _ (m : Member) (here : drop place.0 ms ≡ m ∷ drop (place.0 + 1) ms) where
       abbrev each_after : Bool → Result Bool RelocationError
-      each_after b = cond b (each_member inner local target (map member_of others) (drop (place.0 + 1) (map member_of ms))) (Ok false)
+      each_after b = cond b (each_member inner local target others (drop (place.0 + 1) ms)) (Ok false)
 
-      at_this : Members i j a ≡ (some_member inner local target (member_of m) (drop place.1 (map member_of others)) >>= each_after)
-      at_this = members_at ∙ ap (from_member inner local target (map member_of others) (drop place.1 (map member_of others))) (here_mapped member_of place.0 ms m here)
+      at_this : Members i j a ≡ (some_member inner local target m (drop place.1 others) >>= each_after)
+      at_this = members_at ∙ ap (from_member inner local target others (drop place.1 others)) here
 
-      pub member_fails : (e : RelocationError) → some_member inner local target (member_of m) (drop place.1 (map member_of others)) ≡ Err e → Members i j a ≡ Err e
+      pub member_fails : (e : RelocationError) → some_member inner local target m (drop place.1 others) ≡ Err e → Members i j a ≡ Err e
       member_fails e is-err = at_this ∙ ap (λ (o : Result Bool RelocationError). o >>= each_after) is-err
 
-      pub member_missing : some_member inner local target (member_of m) (drop place.1 (map member_of others)) ≡ Ok false → Ok false ≡ Members i j a
+      pub member_missing : some_member inner local target m (drop place.1 others) ≡ Ok false → Ok false ≡ Members i j a
       member_missing none = sym (at_this ∙ ap (λ (o : Result Bool RelocationError). o >>= each_after) none)
 
-      module _ (k : ℕ) (low : place.0 < length ms) (few : length ms ≤ 18446744073709551615) where
-        start_each : (ns : List Member) → from_member inner local target (map member_of others) (map member_of others) ns ≡ each_member inner local target (map member_of others) ns
+      module _ (k : ℕ) (low : place.0 < 18446744073709551615) where
+        start_each : (ns : List Member) → from_member inner local target others others ns ≡ each_member inner local target others ns
         start_each [] = refl
         start_each (n ∷ ns) = refl
 
-        then_members : (b : Bool) → (cond b (Ok true) (some_member inner local target (member_of m) (drop k (map member_of others))) >>= each_after) ≡ Members place.0 k (Some b)
+        then_members : (b : Bool) → (cond b (Ok true) (some_member inner local target m (drop k others)) >>= each_after) ≡ Members place.0 k (Some b)
         then_members true =
-            sym (ap (λ (n : ℕ). from_member inner local target (map member_of others) (map member_of others) (drop n (map member_of ms))) (next_index_within place.0 (length ms) low few)
-            ∙ start_each (drop (place.0 + 1) (map member_of ms)))
-        then_members false = sym (ap (from_member inner local target (map member_of others) (drop k (map member_of others))) (here_mapped member_of place.0 ms m here))
+            sym (ap (λ (n : ℕ). from_member inner local target others others (drop n ms)) (next_index_within place.0 low)
+            ∙ start_each (drop (place.0 + 1) ms))
+        then_members false = sym (ap (from_member inner local target others (drop k others)) here)
 
         bound_members : (o : Result Bool RelocationError)
-            → ((o >>= λ b. cond b (Ok true) (some_member inner local target (member_of m) (drop k (map member_of others)))) >>= each_after) ≡ (o >>= λ b. Members place.0 k (Some b))
+            → ((o >>= λ b. cond b (Ok true) (some_member inner local target m (drop k others))) >>= each_after) ≡ (o >>= λ b. Members place.0 k (Some b))
         bound_members (Ok b) = then_members b
         bound_members (Err e) = refl
 
-        pub member_asks : (type : ℕ) → some_member inner local target (member_of m) (drop place.1 (map member_of others))
-            ≡ (inner (pair false m.btf_type type) >>= λ b. cond b (Ok true) (some_member inner local target (member_of m) (drop k (map member_of others))))
-            → (inner (pair false m.btf_type type) >>= λ b. Members place.0 k (Some b)) ≡ Members i j a
+        pub member_asks : (type : ℕ) → some_member inner local target m (drop place.1 others)
+            ≡ (inner (pair false m.type type) >>= λ b. cond b (Ok true) (some_member inner local target m (drop k others)))
+            → (inner (pair false m.type type) >>= λ b. Members place.0 k (Some b)) ≡ Members i j a
         member_asks type found =
-            sym (at_this ∙ ap (λ (o : Result Bool RelocationError). o >>= each_after) found ∙ bound_members (inner (pair false m.btf_type type)))
+            sym (at_this ∙ ap (λ (o : Result Bool RelocationError). o >>= each_after) found ∙ bound_members (inner (pair false m.type type)))

@@ -6,8 +6,6 @@ use Rattle.std.proofs.lemmas.Option.{same_Some, slice_get_within, slice_get-map}
 use Rattle.btf_model.specs.Record as model
 use Rattle.btf_model.specs.Record.{Kind, highest_kind, kinds, kind_number, kind_of}
 use Rattle.btf_plain.specs.Kind.{kind}
-use Rattle.btf_records.specs.BtfType.{record_of, type_kind}
-use Rattle.btf_records.specs.declared.btf_type.BtfType.{BtfType}
 use Rattle.btf_plain.specs.declared.kind.BtfKind.{BtfKind}
 use Rattle.btf_plain.specs.declared.kind.BtfKind.TheVariants as variants
 use Rattle.btf_relocate.specs.Index.{kind_code}
@@ -77,7 +75,3 @@ code_of_info k info is =
     let n = kind_number info in
     let all = take (highest_kind + 1) kinds in
     same_number k ∙ sym (place_is 0 all n (number_of (kind k)) (ap (λ (xs : List ℕ). slice_get xs n) (sym numbers) ∙ slice_get-map number_of all n ∙ ap (option_map number_of) is)) ∙ omega arith
-
--- the number of the kind of a type
-pub code_of_type : (k : BtfKind) (b : BtfType) → kind k ≡ type_kind b → kind_of (record_of b).info ≡ Some (type_kind b) → kind_code k ≡ kind_number (record_of b).info
-code_of_type k b same is = code_of_info k (record_of b).info (is ∙ ap (λ (q : Kind). Some q) (sym same))

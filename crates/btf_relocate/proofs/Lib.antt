@@ -3,10 +3,10 @@ mod Accesses
 mod Walks
 mod Sizes
 mod Compatibles
-mod Members
 mod Searches
 mod Paths
 mod Enumerators
+mod Items
 mod Errors
 mod Pointers
 mod Answering

@@ -1,8 +1,6 @@
 -- Elements of lists by their indices, and the size of a pointer: the first type of the C type `long`.
-use Rattle.std.proofs.Common.{◌≡◌, ℕ, suc, ◌+◌, ◌<◌, ◌≤◌, List, ◌∷◌, length, drop, get_or, true, false, Option, Some, None, sym, ap, subst, ◌∙◌, add-one, drop-cons}
+use Rattle.std.proofs.Common.{◌≡◌, ℕ, zero, suc, ◌+◌, ◌<◌, ◌≤◌, List, [], ◌∷◌, length, drop, get_or, true, false, Some, None, sym, ap, ◌∙◌, add-one, drop-cons, arith}
 use Rattle.std.specs.Prelude.{filter, slice_get}
-use Rattle.std.specs.Borrow.{Bor}
-use Rattle.std.specs.Slice.{IsItemAt}
 use Rattle.std.proofs.lemmas.List.{drop_all}
 use Rattle.std.proofs.lemmas.Option.{slice_get_within, get_or_from_slice_get}
 use Rattle.btf_model.specs.Record.{Record}
@@ -18,18 +16,11 @@ element_at {A} xs i x is =
 pub element_there : {A : Type 0} (xs : List A) (i : ℕ) (x : A) → i < length xs → x ≡ get_or xs i x → drop i xs ≡ x ∷ drop (i + 1) xs
 element_there {A} xs i x lt is = drop-cons xs i x lt ∙ ap (λ (y : A). y ∷ drop (suc i) xs) (sym is) ∙ ap (λ (n : ℕ). x ∷ drop n xs) (sym (add-one i))
 
-pub element_from : {A : Type 0} (xs : List A) (i : ℕ) (d : A) → i < length xs → drop i xs ≡ get_or xs i d ∷ drop (i + 1) xs
-element_from xs i d lt = drop-cons xs i d lt ∙ ap (λ (n : ℕ). get_or xs i d ∷ drop n xs) (sym (add-one i))
-
--- the item at an index, if there is one
-pub item_here : {A : Type 0} (xs : List A) (i : ℕ) (o : Option (Bor A)) (x : Bor A) → IsItemAt xs i o → o ≡ Some x → drop i xs ≡ x.now ∷ drop (i + 1) xs
-item_here xs i o x at is = let here = subst (IsItemAt xs i) is at in element_there xs i x.now here.3.0 here.1
-
-pub item_within : {A : Type 0} (xs : List A) (i : ℕ) (o : Option (Bor A)) (x : Bor A) → IsItemAt xs i o → o ≡ Some x → i < length xs
-item_within xs i o x at is = let here = subst (IsItemAt xs i) is at in here.3.0
-
-pub no_item : {A : Type 0} (xs : List A) (i : ℕ) (o : Option (Bor A)) → IsItemAt xs i o → o ≡ None → length xs ≤ i
-no_item xs i o at is = let here = subst (IsItemAt xs i) is at in here.3
+-- there is no element past the last
+pub none_there : {A : Type 0} (xs : List A) (i : ℕ) → slice_get xs i ≡ None → length xs ≤ i
+none_there [] i none = omega arith
+none_there (x ∷ xs) zero none = absurd (cc)
+none_there (x ∷ xs) (suc i) none = omega (arith, none_there xs i none)
 
 module _ (t : Table) (i : ℕ) where
   abbrev Left : Type 0

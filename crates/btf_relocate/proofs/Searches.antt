@@ -1,9 +1,8 @@
 -- The search for a member: what is remembered of a type holds with more room, and the search finds what the plain search finds.
-use Rattle.std.proofs.Common.{◌≡◌, ℕ, zero, suc, ◌+◌, ◌-◌, ◌<◌, ◌≤◌, List, [], ◌∷◌, length, drop, map, Bool, true, false, cond, Option, Some, Result, Ok, Err, refl, sym, ap, subst, ◌∙◌, inl, inr, arith, add-one}
+use Rattle.std.proofs.Common.{◌≡◌, ℕ, zero, suc, ◌+◌, ◌-◌, ◌<◌, ◌≤◌, List, [], ◌∷◌, length, drop, Bool, true, false, cond, Option, Some, Result, Ok, Err, refl, sym, ap, subst, ◌∙◌, inl, inr, arith, add-one}
 use Rattle.std.specs.Prelude.{◌⊎◌, ◌==◌, max}
 use Rattle.std.specs.Str.{bytes_eq}
 use Rattle.std.proofs.lemmas.Bool.Decides.{nat_tests}
-use Rattle.btf_plain.specs.declared.items.BtfMember.{BtfMember}
 use Rattle.btf_model.specs.Record.{Record, member_bit_offset}
 use Rattle.btf_model.specs.Table.{Table}
 use Rattle.btf_relocate_model.specs.Candidates.{is_nameless}
@@ -17,7 +16,6 @@ use Rattle.btf_relocate_model.specs.declared.field.Field.{Field}
 use Rattle.btf_relocate.specs.declared.search.Found.{Found}
 use Rattle.btf_relocate.specs.declared.search.Found.TheVariants as code
 use Rattle.btf_relocate.specs.Gives.{Gives, GivesBy}
-use Rattle.btf_relocate.specs.Members.{member_of}
 use Rattle.btf_relocate.specs.Searching.{found_of, outward, or_later, among, found_without_room, within, from_id, InVain, Remembers}
 use Rattle.std.specs.BTreeMap.{BTreeMap, get, Updates, is_at}
 use Rattle.std.specs.Ordering.{nat_cmp}
@@ -228,86 +226,98 @@ module _ (t : Table) (name : List ℕ) where
 
   -- ---- the steps of the code
 
-  pub begins : (depth : ℕ) (r : Record) (ms : List BtfMember) → (depth ≡ 0 → ⊥) → map member_of ms ≡ members_of r
-      → among (from_id (depth - 1) t name) t name r.info 0 (map member_of ms) ≡ within depth t name r
-  begins zero r ms some same = absurd (some refl)
-  begins (suc d) r ms some same =
+  pub begins : (depth : ℕ) (r : Record) → (depth ≡ 0 → ⊥) → among (from_id (depth - 1) t name) t name r.info 0 (members_of r) ≡ within depth t name r
+  begins zero r some = absurd (some refl)
+  begins (suc d) r some =
       let one : suc d - 1 ≡ d = omega arith in
-      rw (one, same) (sym (within_suc d r))
+      rw one (sym (within_suc d r))
 
   empty : (depth : ℕ) (r : Record) → members_of r ≡ [] → within depth t name r ≡ Ok (code.Nothing 0)
   empty zero r none = within_zero r ∙ ap found_without_room none
   empty (suc d) r none = within_suc d r ∙ ap (among (from_id d t name) t name r.info 0) none
 
-  pub empty_slice : (depth : ℕ) (r : Record) (ms : List BtfMember) (b : Bool) → b ≡ (length ms == 0) → b ≡ true → map member_of ms ≡ members_of r → within depth t name r ≡ Ok (code.Nothing 0)
-  empty_slice depth r [] b is is_so same = empty depth r (sym same)
-  empty_slice depth r (m ∷ ms) b is is_so same = absurd (grind (arith, nat_tests))
+  pub none_at_all : (depth : ℕ) (r : Record) (ms : List Member) → ms ≡ members_of r → length ms ≡ 0 → within depth t name r ≡ Ok (code.Nothing 0)
+  none_at_all depth r [] same none = empty depth r (sym same)
+  none_at_all depth r (m ∷ ms) same none = absurd (omega (arith, none))
 
-  pub full_slice : (depth : ℕ) (r : Record) (ms : List BtfMember) (b : Bool) → b ≡ (length ms == 0) → b ≡ false → depth ≡ 0 → map member_of ms ≡ members_of r → within depth t name r ≡ Err TooDeep
-  full_slice depth r [] b is not_so at same = absurd (grind (arith, nat_tests))
-  full_slice zero r (m ∷ ms) b is not_so at same = within_zero r ∙ ap found_without_room (sym same)
-  full_slice (suc d) r (m ∷ ms) b is not_so at same = absurd (omega (arith, at))
+  pub some_too_deep : (depth : ℕ) (r : Record) (ms : List Member) → ms ≡ members_of r → (length ms ≡ 0 → ⊥) → depth ≡ 0 → within depth t name r ≡ Err TooDeep
+  some_too_deep depth r [] same some at = absurd (some refl)
+  some_too_deep zero r (m ∷ ms) same some at = within_zero r ∙ ap found_without_room (sym same)
+  some_too_deep (suc d) r (m ∷ ms) same some at = absurd (omega (arith, at))
 
   -- one member: it has no name, it is the one, or it has another name
-  module _ (inside : ℕ → Result Found RelocationError) (r : Record) (levels i : ℕ) (ms : List BtfMember) (m : BtfMember) (whole : Result Found RelocationError) where
+  module _ (inside : ℕ → Result Found RelocationError) (r : Record) (levels i : ℕ) (ms : List Member) (m : Member) (whole : Result Found RelocationError) where
     abbrev Rest : Type 0
-    Rest = among inside t name r.info levels (map member_of (drop i ms)) ≡ whole
+    Rest = among inside t name r.info levels (drop i ms) ≡ whole
 
     abbrev Here : Type 0
     Here = drop i ms ≡ m ∷ drop (i + 1) ms
 
-    at_member : Here → Rest → among inside t name r.info levels (member_of m ∷ map member_of (drop (i + 1) ms)) ≡ whole
-    at_member here rest = ap (λ (xs : List BtfMember). among inside t name r.info levels (map member_of xs)) (sym here) ∙ rest
+    at_member : Here → Rest → among inside t name r.info levels (m ∷ drop (i + 1) ms) ≡ whole
+    at_member here rest = ap (λ (xs : List Member). among inside t name r.info levels xs) (sym here) ∙ rest
 
     abbrev Empty : Bool → List ℕ → Type 0
-    Empty b text = (b ≡ (length text == 0)) × (text ≡ name_or_none t m.name_offset)
+    Empty b text = (b ≡ (length text == 0)) × (text ≡ name_or_none t m.name)
 
-    nameless : (b : Bool) (text : List ℕ) → Empty b text → b ≡ is_nameless (name_or_none t m.name_offset)
+    nameless : (b : Bool) (text : List ℕ) → Empty b text → b ≡ is_nameless (name_or_none t m.name)
     nameless b text is = is.0 ∙ ap is_nameless is.1
 
-    pub at_nameless : Here → Rest → (b : Bool) (text : List ℕ) → Empty b text → b ≡ true → (inside m.btf_type >>= or_later (member_bit_offset r.info m.offset) (Later inside t name r.info levels (map member_of (drop (i + 1) ms)))) ≡ whole
+    pub at_nameless : Here → Rest → (b : Bool) (text : List ℕ) → Empty b text → b ≡ true → (inside m.type >>= or_later (member_bit_offset r.info m.offset) (Later inside t name r.info levels (drop (i + 1) ms))) ≡ whole
     at_nameless here rest b text is so =
-        let none : is_nameless (name_or_none t m.name_offset) ≡ true = sym (nameless b text is) ∙ so in
+        let none : is_nameless (name_or_none t m.name) ≡ true = sym (nameless b text is) ∙ so in
         rw none at (at_member here rest)
 
-    pub after_nothing : Here → Rest → (b : Bool) (text : List ℕ) → Empty b text → b ≡ true → (f : Found) (k n : ℕ) → inside m.btf_type ≡ Ok f → f ≡ code.Nothing k → n ≡ max levels (k + 1)
-        → among inside t name r.info n (map member_of (drop (i + 1) ms)) ≡ whole
+    pub after_nothing : Here → Rest → (b : Bool) (text : List ℕ) → Empty b text → b ≡ true → (f : Found) (k n : ℕ) → inside m.type ≡ Ok f → f ≡ code.Nothing k → n ≡ max levels (k + 1)
+        → among inside t name r.info n (drop (i + 1) ms) ≡ whole
     after_nothing here rest b text is so f k n found nothing more =
-        let given : inside m.btf_type ≡ Ok (code.Nothing k) = found ∙ ap (λ (x : Found). Ok x) nothing in
+        let given : inside m.type ≡ Ok (code.Nothing k) = found ∙ ap (λ (x : Found). Ok x) nothing in
         let more-is : n ≡ max levels (suc k) = more ∙ ap (max levels) (add-one k) in
         rw more-is (rw given at (at_nameless here rest b text is so))
 
-    pub in_member : Here → Rest → (b : Bool) (text : List ℕ) → Empty b text → b ≡ true → (f : Found) (g : Field) (n : ℕ) → inside m.btf_type ≡ Ok f → f ≡ code.Member g n
+    pub in_member : Here → Rest → (b : Bool) (text : List ℕ) → Empty b text → b ≡ true → (f : Found) (g : Field) (n : ℕ) → inside m.type ≡ Ok f → f ≡ code.Member g n
         → outward (member_bit_offset r.info m.offset) g n ≡ whole
     in_member here rest b text is so f g n found member =
-        let given : inside m.btf_type ≡ Ok (code.Member g n) = found ∙ ap (λ (x : Found). Ok x) member in
+        let given : inside m.type ≡ Ok (code.Member g n) = found ∙ ap (λ (x : Found). Ok x) member in
         rw given at (at_nameless here rest b text is so)
 
-    pub at_named : Here → Rest → (b c : Bool) (text : List ℕ) → Empty b text → b ≡ false → c ≡ bytes_eq text name → c ≡ true → (member_field r.info 0 (is_end (map member_of (drop (i + 1) ms))) (member_of m) >>= λ f. Ok (code.Member f 1)) ≡ whole
+    -- an error inside a member without a name, a place that is too far, and a member that was found there
+    pub inner_fails : Here → Rest → (b : Bool) (text : List ℕ) → Empty b text → b ≡ true → (e : RelocationError) → inside m.type ≡ Err e → whole ≡ Err e
+    inner_fails here rest b text is so e given = sym (rw given at (at_nameless here rest b text is so))
+
+    pub bit_fails : Here → Rest → (b : Bool) (text : List ℕ) → Empty b text → b ≡ true → (f : Found) (g : Field) (n : ℕ) → inside m.type ≡ Ok f → f ≡ code.Member g n
+        → (e : RelocationError) → moved_bit (member_bit_offset r.info m.offset) g.bit ≡ Err e → whole ≡ Err e
+    bit_fails here rest b text is so f g n found member e far = sym (rw far at (in_member here rest b text is so f g n found member))
+
+    pub found_inside : Here → Rest → (b : Bool) (text : List ℕ) → Empty b text → b ≡ true → (f : Found) (g : Field) (n : ℕ) → inside m.type ≡ Ok f → f ≡ code.Member g n
+        → (first : ℕ) → moved_bit (member_bit_offset r.info m.offset) g.bit ≡ Ok first → whole ≡ Ok (code.Member (record g { bit = first }) (n + 1))
+    found_inside here rest b text is so f g n found member first fits =
+        sym (rw fits at (in_member here rest b text is so f g n found member)) ∙ ap (λ (k : ℕ). Ok (code.Member (record g { bit = first }) k)) (sym (add-one n))
+
+    pub at_named : Here → Rest → (b c : Bool) (text : List ℕ) → Empty b text → b ≡ false → c ≡ bytes_eq text name → c ≡ true → (member_field r.info 0 (is_end (drop (i + 1) ms)) m >>= λ f. Ok (code.Member f 1)) ≡ whole
     at_named here rest b c text is other same so =
-        let some : is_nameless (name_or_none t m.name_offset) ≡ false = sym (nameless b text is) ∙ other in
-        let found : bytes_eq (name_or_none t m.name_offset) name ≡ true = ap (λ (xs : List ℕ). bytes_eq xs name) (sym is.1) ∙ sym same ∙ so in
+        let some : is_nameless (name_or_none t m.name) ≡ false = sym (nameless b text is) ∙ other in
+        let found : bytes_eq (name_or_none t m.name) name ≡ true = ap (λ (xs : List ℕ). bytes_eq xs name) (sym is.1) ∙ sym same ∙ so in
         rw (some, found) at (at_member here rest)
 
-    pub at_other : Here → Rest → (b c : Bool) (text : List ℕ) → Empty b text → b ≡ false → c ≡ bytes_eq text name → c ≡ false → among inside t name r.info (max levels 1) (map member_of (drop (i + 1) ms)) ≡ whole
+    pub at_other : Here → Rest → (b c : Bool) (text : List ℕ) → Empty b text → b ≡ false → c ≡ bytes_eq text name → c ≡ false → among inside t name r.info (max levels 1) (drop (i + 1) ms) ≡ whole
     at_other here rest b c text is other same so =
-        let some : is_nameless (name_or_none t m.name_offset) ≡ false = sym (nameless b text is) ∙ other in
-        let found : bytes_eq (name_or_none t m.name_offset) name ≡ false = ap (λ (xs : List ℕ). bytes_eq xs name) (sym is.1) ∙ sym same ∙ so in
+        let some : is_nameless (name_or_none t m.name) ≡ false = sym (nameless b text is) ∙ other in
+        let found : bytes_eq (name_or_none t m.name) name ≡ false = ap (λ (xs : List ℕ). bytes_eq xs name) (sym is.1) ∙ sym same ∙ so in
         rw (some, found) at (at_member here rest)
 
-    last : i < length ms → (b : Bool) → b ≡ (i + 1 == length ms) → b ≡ is_end (map member_of (drop (i + 1) ms))
+    last : i < length ms → (b : Bool) → b ≡ (i + 1 == length ms) → b ≡ is_end (drop (i + 1) ms)
     last lt b is = is ∙ ends (i + 1) ms (omega (arith, lt))
       where
-        ends : (n : ℕ) (xs : List BtfMember) → n ≤ length xs → (n == length xs) ≡ is_end (map member_of (drop n xs))
+        ends : (n : ℕ) (xs : List Member) → n ≤ length xs → (n == length xs) ≡ is_end (drop n xs)
         ends zero [] le = refl
         ends zero (x ∷ xs) le = grind (arith, nat_tests)
         ends (suc n) [] le = absurd (omega (arith, le))
         ends (suc n) (x ∷ xs) le = grind (arith, nat_tests, ends n xs (omega (arith, le)))
 
     pub found_here : Here → Rest → (b c d : Bool) (text : List ℕ) → Empty b text → b ≡ false → c ≡ bytes_eq text name → c ≡ true → i < length ms → d ≡ (i + 1 == length ms)
-        → (o : Result Field RelocationError) → o ≡ member_field r.info 0 d (member_of m) → (o >>= λ f. Ok (code.Member f 1)) ≡ whole
+        → (o : Result Field RelocationError) → o ≡ member_field r.info 0 d m → (o >>= λ f. Ok (code.Member f 1)) ≡ whole
     found_here here rest b c d text is other same so lt final o field =
-        let field-is : o ≡ member_field r.info 0 (is_end (map member_of (drop (i + 1) ms))) (member_of m) = field ∙ ap (λ (x : Bool). member_field r.info 0 x (member_of m)) (last lt d final) in
+        let field-is : o ≡ member_field r.info 0 (is_end (drop (i + 1) ms)) m = field ∙ ap (λ (x : Bool). member_field r.info 0 x m) (last lt d final) in
         ap (λ (p : Result Field RelocationError). p >>= λ f. Ok (code.Member f 1)) field-is ∙ at_named here rest b c text is other same so
 
   -- a type that is remembered from now on

@@ -3,7 +3,6 @@ pub mod Access
 pub mod Comparing
 pub mod Entries
 pub mod Enumerators
-pub mod Extent
 pub mod Gives
 pub mod Index
 pub mod TargetIndex

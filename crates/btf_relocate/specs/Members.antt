@@ -1,7 +1,9 @@
--- Members, as the definitions see them.
-use Rattle.std.specs.Prelude.{ℕ}
-use Rattle.btf_model.specs.Record.{member_bit_offset, member_bit_field_size}
+-- The parts of a type, as the definitions see them.
+use Rattle.std.specs.Prelude.{◌≡◌, ℕ, List, [], ◌∷◌, Option, Some, MatchOption}
+use Rattle.btf_model.specs.Record.{Kind, Array, FuncProto, Record, kind_of, member_bit_offset, member_bit_field_size}
+use Rattle.btf_plain.specs.declared.btf_array.BtfArray.{BtfArray}
 use Rattle.btf_plain.specs.declared.items.BtfMember.{BtfMember}
+use Rattle.btf_relocate_model.specs.Comparison.{parameter_ids}
 use Rattle.btf_relocate_model.specs.Field.{Member}
 
 abbrev pub member_of : BtfMember → Member
@@ -10,3 +12,17 @@ member_of m = record { name = m.name_offset; type = m.btf_type; offset = m.offse
 -- where a member begins, and the number of bits of a bit-field, else 0, by the info word and the member's last word
 abbrev pub member_bits : ℕ → ℕ → ℕ × ℕ
 member_bits info offset = (member_bit_offset info offset, member_bit_field_size info offset)
+
+-- the types of the parameters of a FUNC_PROTO; none for a type of another kind
+abbrev pub parameters_by : Option Kind → List ℕ → List ℕ
+parameters_by (Some FuncProto) words = parameter_ids words
+parameters_by k words = []
+
+abbrev pub parameters_of : Record → List ℕ
+parameters_of r = parameters_by (kind_of r.info) r.tail
+
+-- the words of an ARRAY; none for a type of another kind
+abbrev pub IsArrayOf : Record → Option BtfArray → Type 0
+IsArrayOf r result =
+    MatchOption result (kind_of r.info ≡ Some Array → ⊥)
+    (λ a. (kind_of r.info ≡ Some Array) × (r.tail ≡ a.element_type ∷ a.index_type ∷ a.len ∷ []))

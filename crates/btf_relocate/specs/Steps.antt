@@ -1,23 +1,23 @@
 -- Comparisons of two types, step by step, as the definitions see them.
-use Rattle.std.specs.Prelude.{◌≡◌, ◌⊎◌, ℕ, zero, suc, ◌+◌, ◌-◌, nat_lt, if◌then◌else◌, Bool, true, false, List, [], ◌∷◌, drop, map, Option, None, Some, Result, Ok, Err, MatchResult, reverse}
+use Rattle.std.specs.Prelude.{◌≡◌, ◌⊎◌, ℕ, zero, suc, ◌+◌, ◌-◌, nat_lt, if◌then◌else◌, Bool, true, false, List, [], ◌∷◌, drop, Option, None, Some, Result, Ok, Err, MatchResult, reverse}
 use Rattle.std.specs.Borrow.{Bor}
 use Rattle.std.specs.BTreeSet.{BTreeSet, contains}
 use Rattle.std.specs.List.{list_any}
 use Rattle.std.specs.Str.{bytes_eq}
 use Rattle.std.specs.Cmp.Lexicographic.{slice_cmp}
 use Rattle.std.specs.Ordering.{nat_cmp}
-use Rattle.btf_plain.specs.declared.items.BtfParam.{BtfParam}
+use Rattle.btf_view.specs.TypeRef.{record_in}
 use Rattle.btf_model.specs.Record.{Record, Kind, kind_of}
 use Rattle.btf_model.specs.Table.{Table}
 use Rattle.btf_relocate_model.specs.Comparison as model
 use Rattle.btf_relocate_model.specs.Comparison.{Comparison, each_parameter, each_member, some_member, resolved_pair, step_at, walked, pair, is_enumeration}
-use Rattle.btf_relocate_model.specs.Field.{Member}
+use Rattle.btf_relocate_model.specs.Field.{Member, members_of}
 use Rattle.btf_relocate_model.specs.Types.{◌>>=◌}
 use Rattle.btf_relocate_model.specs.declared.comparison.Pair.{Pair}
 use Rattle.btf_relocate_model.specs.declared.comparison.Rule.{Rule}
 use Rattle.btf_relocate_model.specs.declared.error.RelocationError.{RelocationError}
 use Rattle.btf_relocate_model.specs.declared.error.RelocationError.TheVariants.{OutOfMemory, MaximumTypeDepthReached}
-use Rattle.btf_relocate.specs.Members.{member_of}
+use Rattle.btf_relocate.specs.Members.{parameters_of}
 use Rattle.btf_relocate.specs.declared.types.Frame.{Frame}
 use Rattle.btf_relocate.specs.declared.types.steps.Step.{Step}
 use Rattle.btf_relocate.specs.declared.types.steps.Step.TheVariants as code
@@ -28,16 +28,12 @@ use Rattle.btf_relocate.specs.declared.types.walk.Next.TheVariants as next
 abbrev pub by_kinds : {X : Type 0} → (Option Kind → Option Kind → Record → Record → X) → Record → Record → X
 by_kinds rule one other = rule (kind_of one.info) (kind_of other.info) one other
 
--- the type of a parameter
-abbrev pub type_of : BtfParam → ℕ
-type_of p = p.btf_type
-
 abbrev pub step_view : Step → model.Step
 step_view (code.Ends is_alike) = model.Ends is_alike
 step_view (code.GoesOn p) = model.GoesOn p
-step_view (code.EachParameter params others returned) =
-    model.EachParameter (map type_of params.now) (map type_of others.now) returned
-step_view (code.EachMember members others) = model.EachMember (map member_of members.now) (map member_of others.now)
+step_view (code.EachParameter one other returned) =
+    model.EachParameter (parameters_of (record_in one)) (parameters_of (record_in other)) returned
+step_view (code.EachMember one other) = model.EachMember (members_of (record_in one)) (members_of (record_in other))
 
 abbrev pub comparison : Rule → Table → Table → Comparison
 comparison rule local target = record { rule = rule; local = local; target = target }
@@ -102,6 +98,10 @@ NextMember local target members others index other answer (Err e) =
     (inner further : Compare)
     → resumed inner further local target (model.EachMember members others) index other answer ≡ Err e
 
+-- what comes next of the members of two types with these records
+abbrev pub NextMemberOf : Table → Table → Record → Record → ℕ → ℕ → Option Bool → Result Next RelocationError → Type 0
+NextMemberOf local target r s = NextMember local target (members_of r) (members_of s)
+
 -- what is left of a comparison, of so many positions
 abbrev pub rest_by : ℕ → Compare → Comparison → Frame → Option Bool → Result Bool RelocationError
 rest_by zero inner c f answer = Err (MaximumTypeDepthReached f.start.local)
@@ -134,6 +134,10 @@ NamedMember local target m others from (Ok (Some found)) =
 NamedMember local target m others from (Ok None) = (inner : Compare) → some_member inner local target m from ≡ Ok false
 NamedMember local target m others from (Err e) = (inner : Compare) → some_member inner local target m from ≡ Err e
 
+-- a member with the name of a type with this record, from an index on
+abbrev pub NamedMemberOf : Table → Table → Member → Record → ℕ → Result (Option (ℕ × ℕ)) RelocationError → Type 0
+NamedMemberOf local target m r from = NamedMember local target m (members_of r) (drop from (members_of r))
+
 -- whether a set has a name
 abbrev pub has_name : BTreeSet (Bor (List ℕ)) → Bor (List ℕ) → Bool
 has_name names name = contains (λ x y. slice_cmp nat_cmp x.now y.now) names name
@@ -151,9 +155,8 @@ GivesNames expected result =
 
 -- Under any comparisons and tables, what comes next is what the walk of parameters gives that is resumed in this
 -- frame.
-abbrev pub ResumesParameters : Frame → Option Bool → List BtfParam → List BtfParam → Pair → Next → Type 0
-ResumesParameters frame answer params others returned result =
+abbrev pub ResumesParameters : Frame → Option Bool → List ℕ → List ℕ → Pair → Next → Type 0
+ResumesParameters frame answer types others returned result =
     (inner further : Compare) (local target : Table)
-    → next_of inner further local target (model.EachParameter (map type_of params)
-    (map type_of others) returned) result ≡ resumed inner further local target
-    (model.EachParameter (map type_of params) (map type_of others) returned) frame.index frame.other answer
+    → next_of inner further local target (model.EachParameter types others returned) result
+    ≡ resumed inner further local target (model.EachParameter types others returned) frame.index frame.other answer

@@ -1,15 +1,17 @@
 //! Compatible types of fields.
 
 ghost use Rattle.std.specs.Prelude.{◌≡◌};
-ghost use Rattle.btf_records.specs.BtfType.{record_of};
+ghost use Rattle.btf_view.specs.TypeRef.{record_in};
 ghost use Rattle.btf_relocate_model.specs.Compatible as model;
 
+use crate::kinds::{array_of, int_offset, is_composite};
 use crate::lookup::{name_at, resolve_to_type};
 use crate::name::essential_name;
 use crate::target::comparison_number;
-use btf_records::BtfType;
+use btf_plain::BtfKind;
 use btf_relocate_model::RelocationError;
-use btf_table::{Btf, WALK_LIMIT};
+use btf_table::WALK_LIMIT;
+use btf_view::{TableRef, TypeRef};
 
 /// Whether the types of two fields are compatible, each in its own table (libbpf's `bpf_core_fields_are_compat`).
 ///
@@ -17,9 +19,9 @@ use btf_table::{Btf, WALK_LIMIT};
 /// and two ENUMs or ENUM64s, are compatible if one of them has no name, or if their essential names are equal. Two
 /// ARRAYs are compatible if the types of their elements are.
 pub fn are_compatible(
-    local: &Btf,
+    local: &TableRef<'_>,
     local_id: u32,
-    target: &Btf,
+    target: &TableRef<'_>,
     target_id: u32,
 ) -> Result<bool, RelocationError>
     ensures { result ≡ model.compatible local.now target.now local_id target_id }
@@ -29,38 +31,37 @@ pub fn are_compatible(
     for _ in 0..WALK_LIMIT {
         let one = resolve_to_type(local, id)?;
         let other = resolve_to_type(target, other_id)?;
-        let (BtfType::Array(array), BtfType::Array(other_array)) = (one, other) else {
-            return are_alike(local, one, target, other);
+        let (Some(array), Some(other_array)) = (array_of(&one), array_of(&other)) else {
+            return are_alike(local, &one, target, &other);
         };
-        id = array.array().element_type;
-        other_id = other_array.array().element_type;
+        id = array.element_type;
+        other_id = other_array.element_type;
     }
     Err(RelocationError::MaximumTypeDepthReached { type_id: local_id })
 }
 
 /// Whether two types of fields that are no modifiers and not both arrays are compatible.
 fn are_alike(
-    local: &Btf,
-    one: &BtfType,
-    target: &Btf,
-    other: &BtfType,
+    local: &TableRef<'_>,
+    one: &TypeRef<'_>,
+    target: &TableRef<'_>,
+    other: &TypeRef<'_>,
 ) -> Result<bool, RelocationError>
-    ensures { result ≡ model.alike local.now target.now (record_of one.now) (record_of other.now) }
+    ensures { result ≡ model.alike local.now target.now (record_in one.now) (record_in other.now) }
 {
-    // Only a use of the kinds proves that the info words have them.
-    let _ = (one.kind(), other.kind());
-    if one.is_composite() && other.is_composite() {
+    let (kind, other_kind) = (one.kind(), other.kind());
+    if is_composite(kind) && is_composite(other_kind) {
         return Ok(true);
     }
-    if comparison_number(one.kind()) != comparison_number(other.kind()) {
+    if comparison_number(kind) != comparison_number(other_kind) {
         return Ok(false);
     }
-    match (one, other) {
-        (BtfType::Ptr(_), _) => Ok(true),
-        (BtfType::Float(_), _) => Ok(true),
-        (BtfType::Int(t), BtfType::Int(u)) => Ok(t.offset() == 0 && u.offset() == 0),
+    match (kind, other_kind) {
+        (BtfKind::Ptr, _) => Ok(true),
+        (BtfKind::Float, _) => Ok(true),
+        (BtfKind::Int, BtfKind::Int) => Ok(int_offset(one) == 0 && int_offset(other) == 0),
         // One of two types has no name, or their essential names are equal.
-        (BtfType::Fwd(_) | BtfType::Enum(_) | BtfType::Enum64(_), _) => {
+        (BtfKind::Fwd | BtfKind::Enum | BtfKind::Enum64, _) => {
             let name = essential_name(name_at(local, one.name_offset())?);
             let other_name = essential_name(name_at(target, other.name_offset())?);
             Ok(name.is_empty() || other_name.is_empty() || name == other_name)

@@ -1,19 +1,17 @@
 //! Places in a type that a path of indices leads to.
 
-ghost use Rattle.std.specs.Prelude.{◌≡◌, ◌*◌, Ok, Err, map, Some, None, MatchOption, length, []};
-ghost use Rattle.std.specs.Option.{option_map};
-ghost use Rattle.btf_model.specs.Record.{member_bit_offset, member_bit_field_size, is_composite};
-ghost use Rattle.btf_records.specs.BtfType.{record_of, type_kind};
+ghost use Rattle.std.specs.Prelude.{◌≡◌, ◌∷◌, []};
+ghost use Rattle.btf_view.specs.TypeRef.{record_in};
 ghost use Rattle.btf_relocate_model.specs.Field as model;
 ghost use Rattle.btf_relocate.specs.Members.{member_of, member_bits};
 ghost use Rattle.btf_relocate.specs.Placed.{resolved_placed};
 
+use crate::kinds::{array_of, member_at, member_count};
 use crate::lookup::{resolve_id, resolve_to_type, type_at};
 use crate::size::size_of;
-use btf_plain::BtfMember;
-use btf_records::BtfType;
+use btf_plain::{BtfArray, BtfMember};
 use btf_relocate_model::{Field, RelocationError};
-use btf_table::Btf;
+use btf_view::{TableRef, TypeRef};
 
 /// The first bit after a number of bits.
 pub fn move_bit(bit: u32, by: u64) -> Result<u32, RelocationError>
@@ -27,7 +25,7 @@ pub fn move_bit(bit: u32, by: u64) -> Result<u32, RelocationError>
 
 /// The value at an index of values of the type that an id resolves to, where the first value begins at a bit.
 pub fn place(
-    table: &Btf,
+    table: &TableRef<'_>,
     pointer_size: u32,
     type_id: u32,
     bit: u32,
@@ -52,10 +50,9 @@ pub fn place(
     })
 }
 
-/// The element at an index of the ARRAY at a place; `None` if there is no ARRAY, or no such element. An array of length
-/// 0 that is the last member of its type has elements at all indices, because C uses it as a flexible array member.
+/// The element at an index of the ARRAY at a place; `None` if there is no ARRAY, or no such element.
 pub fn element(
-    table: &Btf,
+    table: &TableRef<'_>,
     pointer_size: u32,
     field: &Field,
     index: u32,
@@ -63,10 +60,25 @@ pub fn element(
     ensures { result ≡ model.element pointer_size table.now field.now index }
 {
     let id = resolve_id(table, field.type_id)?;
-    let BtfType::Array(array) = type_at(table, id)? else {
-        return Ok(None);
-    };
-    let array = array.array();
+    let btf_type = type_at(table, id)?;
+    match array_of(&btf_type) {
+        Some(array) => element_of(table, pointer_size, field, &array, index),
+        None => Ok(None),
+    }
+}
+
+/// The element at an index of an ARRAY; `None` if there is none. An array of length 0 that is the last member of its
+/// type has elements at all indices, because C uses it as a flexible array member.
+fn element_of(
+    table: &TableRef<'_>,
+    pointer_size: u32,
+    field: &Field,
+    array: &BtfArray,
+    index: u32,
+) -> Result<Option<Field>, RelocationError>
+    ensures { result ≡ model.element_of pointer_size table.now field.now index
+        (array.now.element_type ∷ array.now.index_type ∷ array.now.len ∷ []) }
+{
     let is_flexible = array.len == 0 && field.is_member && field.is_last;
     if index >= array.len && !is_flexible {
         return Ok(None);
@@ -78,40 +90,25 @@ pub fn element(
 /// The member at an index of the STRUCT or UNION at a place, with the string offset of its name; `None` if there is no
 /// STRUCT or UNION, or no such member.
 pub fn member(
-    table: &Btf,
+    table: &TableRef<'_>,
     field: &Field,
     index: u32,
 ) -> Result<Option<(Field, u32)>, RelocationError>
     ensures { result ≡ model.member table.now field.now index }
 {
     let btf_type = resolve_to_type(table, field.type_id)?;
-    let members = members(btf_type);
     let index = index as usize;
-    if index >= members.len() {
+    let Some(member) = member_at(&btf_type, index) else {
         return Ok(None);
-    }
-    let member = &members[index];
-    let is_last = index + 1 == members.len();
-    let found = member_field(btf_type, member, field.bit, is_last)?;
+    };
+    let is_last = index + 1 == member_count(&btf_type);
+    let found = member_field(&btf_type, &member, field.bit, is_last)?;
     Ok(Some((found, member.name_offset)))
 }
 
-/// The members of a STRUCT or UNION; none for a type of another kind.
-pub fn members(btf_type: &BtfType) -> &[BtfMember]
-    ensures { map member_of result.now ≡ model.members_of (record_of btf_type.now) }
-{
-    // Only a use of the kind proves that the info word has it.
-    let _ = btf_type.kind();
-    match btf_type {
-        BtfType::Struct(t) => t.members(),
-        BtfType::Union(t) => t.members(),
-        _ => &[],
-    }
-}
-
 /// The bit of a STRUCT or UNION at which a member begins, and the number of bits of a bit-field, else 0.
-pub fn bits_of(btf_type: &BtfType, member: &BtfMember) -> (u32, u32)
-    ensures { result ≡ member_bits (record_of btf_type.now).info member.now.offset }
+pub fn bits_of(btf_type: &TypeRef<'_>, member: &BtfMember) -> (u32, u32)
+    ensures { result ≡ member_bits (record_in btf_type.now).info member.now.offset }
 {
     if btf_type.info() / 0x8000_0000 == 1 {
         (member.offset % 0x100_0000, member.offset / 0x100_0000)
@@ -122,12 +119,12 @@ pub fn bits_of(btf_type: &BtfType, member: &BtfMember) -> (u32, u32)
 
 /// A member of a STRUCT or UNION that begins at this bit.
 pub fn member_field(
-    btf_type: &BtfType,
+    btf_type: &TypeRef<'_>,
     member: &BtfMember,
     bit: u32,
     is_last: bool,
 ) -> Result<Field, RelocationError>
-    ensures { result ≡ model.member_field (record_of btf_type.now).info bit is_last
+    ensures { result ≡ model.member_field (record_in btf_type.now).info bit is_last
         (member_of member.now) }
 {
     let (offset, bits) = bits_of(btf_type, member);

@@ -7,6 +7,7 @@ mod compatible;
 mod enumerator;
 mod field;
 mod instruction;
+mod kinds;
 mod lookup;
 mod matching;
 mod modules;

@@ -5,18 +5,18 @@ ghost use Rattle.btf_plain.specs.Error.{refusal_of};
 ghost use Rattle.btf_relocate_model.specs.Types as model;
 ghost use Rattle.btf_relocate.specs.Lookup.{GivesType};
 
-use btf_plain::{BtfError, Float};
-use btf_records::BtfType;
+use btf_plain::BtfError;
 use btf_relocate_model::RelocationError;
-use btf_table::{Btf, name_bytes};
+use btf_view::{TableRef, TypeRef};
 
 /// The type of an id.
-pub fn type_at(table: &Btf, type_id: u32) -> Result<&BtfType, RelocationError>
+#[inline(always)]
+pub fn type_at<'t>(table: &TableRef<'t>, type_id: u32) -> Result<TypeRef<'t>, RelocationError>
     ensures { GivesType (model.required_record table.now type_id) result }
 {
-    match table.type_by_id(type_id) {
-        Ok(btf_type) => Ok(btf_type),
-        Err(_) => Err(RelocationError::UnknownBtfType { type_id }),
+    match table.type_at(type_id) {
+        Some(btf_type) => Ok(btf_type),
+        None => Err(RelocationError::UnknownBtfType { type_id }),
     }
 }
 
@@ -34,17 +34,22 @@ fn walk_error(error: &BtfError, type_id: u32) -> RelocationError
 }
 
 /// The id that an id resolves to.
-pub fn resolve_id(table: &Btf, type_id: u32) -> Result<u32, RelocationError>
+#[inline(always)]
+pub fn resolve_id(table: &TableRef<'_>, type_id: u32) -> Result<u32, RelocationError>
     ensures { result ≡ model.resolved table.now type_id }
 {
-    match table.resolve_type(type_id) {
+    match table.resolve(type_id) {
         Ok(id) => Ok(id),
         Err(error) => Err(walk_error(&error, type_id)),
     }
 }
 
 /// The type that an id resolves to.
-pub fn resolve_to_type(table: &Btf, type_id: u32) -> Result<&BtfType, RelocationError>
+#[inline(always)]
+pub fn resolve_to_type<'t>(
+    table: &TableRef<'t>,
+    type_id: u32,
+) -> Result<TypeRef<'t>, RelocationError>
     ensures { GivesType (model.resolved_record table.now type_id) result }
 {
     let id = resolve_id(table, type_id)?;
@@ -52,19 +57,19 @@ pub fn resolve_to_type(table: &Btf, type_id: u32) -> Result<&BtfType, Relocation
 }
 
 /// The bytes of a name that is needed, which need not be UTF-8.
-pub fn name_at(table: &Btf, offset: u32) -> Result<&[u8], RelocationError>
+#[inline(always)]
+pub fn name_at<'t>(table: &TableRef<'t>, offset: u32) -> Result<&'t [u8], RelocationError>
     ensures { MatchResult result (λ b. model.name_at table.now offset ≡ Ok b.now)
         (λ e. model.name_at table.now offset ≡ Err e) }
 {
-    // `name_bytes` reads the name of a type, so ask for the name of one that has this offset.
-    match name_bytes(table, &BtfType::Float(Float::new(offset, 0))) {
+    match table.name(offset) {
         Some(bytes) => Ok(bytes),
         None => Err(RelocationError::InvalidStringOffset { offset }),
     }
 }
 
 /// The bytes of a name; none if there is no text at the offset.
-pub fn name_or_none(table: &Btf, offset: u32) -> &[u8]
+pub fn name_or_none<'t>(table: &TableRef<'t>, offset: u32) -> &'t [u8]
     ensures { result.now ≡ model.name_or_none table.now offset }
 {
     match name_at(table, offset) {

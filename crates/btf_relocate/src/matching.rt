@@ -15,7 +15,7 @@ use crate::path::{Accessor, Path};
 use crate::search::{Found, find_member};
 use crate::target::Target;
 use btf_relocate_model::{Field, RelocationError};
-use btf_table::Btf;
+use btf_view::TableRef;
 use std::alloc::Global;
 
 /// The maximum number of members and elements on the way to a field, members without a name included.
@@ -33,7 +33,7 @@ struct Reached {
 /// The place in a candidate that a path matches; `None` if it does not match.
 pub fn matching_field(
     alloc: Global,
-    local: &Btf,
+    local: &TableRef<'_>,
     path: &Path<'_>,
     target: &Target<'_>,
     candidate: u32,
@@ -59,7 +59,7 @@ pub fn matching_field(
 /// The place that a step leads to from another place; `None` if the step does not match.
 fn matching_step(
     alloc: Global,
-    local: &Btf,
+    local: &TableRef<'_>,
     target: &Target<'_>,
     at: &Reached,
     accessor: &Accessor<'_>,

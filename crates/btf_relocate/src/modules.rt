@@ -11,12 +11,13 @@ ghost use Rattle.btf_relocate.specs.Modules.{ResolvesAmong, ResolvesInModules, a
 ghost use Rattle.btf_relocate.specs.Resolving.{subject_view};
 
 use crate::resolving::{
-    Question, expected_of, local_id, question_of, resolve, resolve_by, table_answers, validates,
+    Question, expected_of, local_id, question_of, resolve_by, resolve_in, table_answers, validates,
 };
-use crate::section::candidates_of;
+use crate::section::candidates_in;
 use crate::target::Target;
 use btf_relocate_model::{Answer, Matched, RelocationError, RelocationKind, Resolved};
 use btf_table::Btf;
+use btf_view::TableRef;
 use std::alloc::{AllocError, Global};
 
 /// The tables that a program is relocated against: the kernel's, and those of its modules.
@@ -103,7 +104,21 @@ pub fn candidates_among<'a, 't>(
     ensures { IfOk result (λ c. candidates_view c
         ≡ model.candidates_among local.now (targets_view targets.now) type_id) }
 {
-    let ids = candidates_of(alloc, local, targets.kernel, type_id)?;
+    let local = TableRef::of_table(local);
+    candidates_among_in(alloc, &local, targets, type_id)
+}
+
+/// The same for a program's own table, whatever holds it.
+pub fn candidates_among_in<'a, 't>(
+    alloc: Global,
+    local: &TableRef<'_>,
+    targets: &Targets<'a, 't>,
+    type_id: u32,
+) -> Result<Candidates<'a, 't>, AllocError>
+    ensures { IfOk result (λ c. candidates_view c
+        ≡ model.candidates_among local.now (targets_view targets.now) type_id) }
+{
+    let ids = candidates_in(alloc, local, targets.kernel, type_id)?;
     if !ids.is_empty() || targets.modules.is_empty() {
         return Ok(Candidates::InKernel(ids));
     }
@@ -114,7 +129,7 @@ pub fn candidates_among<'a, 't>(
 /// The candidates of a type of the program's table in each of these tables.
 fn find_in<'a, 't>(
     alloc: Global,
-    local: &Btf,
+    local: &TableRef<'_>,
     targets: &'a [Target<'t>],
     type_id: u32,
 ) -> Result<Vec<InModule<'a, 't>>, AllocError>
@@ -123,7 +138,7 @@ fn find_in<'a, 't>(
 {
     let mut found = Vec::with_capacity(alloc, targets.len())?;
     for target in targets {
-        let ids = candidates_of(alloc, local, target, type_id)?;
+        let ids = candidates_in(alloc, local, target, type_id)?;
         found.push(InModule { target, ids })?;
     }
     Ok(found)
@@ -143,8 +158,23 @@ pub fn resolve_among(
     ensures { ResolvesAmong local.now targets.now «record».now
         candidates.old candidates.new result }
 {
+    let local = TableRef::of_table(local);
+    resolve_among_in(alloc, &local, targets, record, candidates)
+}
+
+/// The same for a program's own table, whatever holds it.
+pub fn resolve_among_in(
+    alloc: Global,
+    local: &TableRef<'_>,
+    targets: &Targets<'_, '_>,
+    record: &[u32; 4],
+    candidates: &mut Candidates<'_, '_>,
+) -> Result<Resolved, RelocationError>
+    ensures { ResolvesAmong local.now targets.now «record».now
+        candidates.old candidates.new result }
+{
     match candidates {
-        Candidates::InKernel(ids) => resolve(alloc, local, targets.kernel, record, ids),
+        Candidates::InKernel(ids) => resolve_in(alloc, local, targets.kernel, record, ids),
         Candidates::InModules(found) => {
             resolve_in_modules(alloc, local, targets.kernel, record, found)
         }
@@ -154,7 +184,7 @@ pub fn resolve_among(
 /// The value of a record whose candidates are in the tables of modules.
 fn resolve_in_modules<'a, 't>(
     alloc: Global,
-    local: &Btf,
+    local: &TableRef<'_>,
     kernel: &Target<'_>,
     record: &[u32; 4],
     found: &mut Vec<InModule<'a, 't>>,
@@ -180,7 +210,7 @@ fn resolve_in_modules<'a, 't>(
 /// The answer of all candidates that match, and these candidates. Each is compared in its own table.
 fn answers_among<'a, 't>(
     alloc: Global,
-    local: &Btf,
+    local: &TableRef<'_>,
     question: &Question<'_>,
     found: &[InModule<'a, 't>],
 ) -> Result<(Option<Answer>, Vec<InModule<'a, 't>>), RelocationError>
@@ -208,7 +238,7 @@ fn answers_among<'a, 't>(
 }
 
 /// The table of the first of these candidates, and another if there is none.
-fn first_table<'b>(other: &'b Btf, found: &'b [InModule<'_, '_>]) -> &'b Btf
+fn first_table<'b, 't>(other: &'b TableRef<'t>, found: &'b [InModule<'b, 't>]) -> &'b TableRef<'t>
     ensures { result.now ≡ model.first_table other.now (map found_view found.now) }
 {
     for one in found {

@@ -9,7 +9,7 @@ use crate::access::Access;
 use crate::field::{element, member, place};
 use crate::lookup::name_at;
 use btf_relocate_model::{Field, RelocationError};
-use btf_table::Btf;
+use btf_view::TableRef;
 use std::alloc::Global;
 
 /// The size of a pointer in a program's own table.
@@ -46,7 +46,7 @@ impl<'t> Path<'t> {
     /// The path that an access describes, from a type on.
     pub fn new(
         alloc: Global,
-        table: &'t Btf,
+        table: &TableRef<'t>,
         type_id: u32,
         access: &Access,
     ) -> Result<Path<'t>, RelocationError>
@@ -76,7 +76,11 @@ impl<'t> Path<'t> {
 }
 
 /// The place that an index leads to from another place.
-fn place_at<'t>(table: &'t Btf, around: &Field, index: u32) -> Result<Place<'t>, RelocationError>
+fn place_at<'t>(
+    table: &TableRef<'t>,
+    around: &Field,
+    index: u32,
+) -> Result<Place<'t>, RelocationError>
     ensures { IsBy place_of (model.place_at table.now around.now index) result }
 {
     let Some((field, name_offset)) = member(table, around, index)? else {

@@ -9,6 +9,7 @@ ghost use Rattle.btf_relocate.specs.Resolving.{subject_view, question_view, answ
 
 use crate::access::Access;
 use crate::enumerator::{enumerator_at, find_enumerator};
+use crate::kinds::word_at;
 use crate::lookup::{name_at, type_at};
 use crate::matching::matching_field;
 use crate::path::{LOCAL_POINTER_SIZE, Path};
@@ -17,9 +18,10 @@ use crate::target::{CANDIDATE_LIMIT, Target};
 use crate::types::types_alike;
 use crate::value::{field_value, plain};
 use btf_model::Endianness;
-use btf_records::BtfType;
+use btf_plain::BtfKind;
 use btf_relocate_model::{Answer, Match, RelocationError, RelocationKind, Resolved, Rule, Value};
 use btf_table::Btf;
+use btf_view::TableRef;
 use std::alloc::Global;
 
 /// What a record is about, in the program's own table.
@@ -59,6 +61,21 @@ pub fn resolve(
     ensures { ResolvesFor local.now target.now «record».now candidates.old.items
         candidates.new.items result }
 {
+    let local = TableRef::of_table(local);
+    resolve_in(alloc, &local, target, record, candidates)
+}
+
+/// The same for a program's own table, whatever holds it.
+pub fn resolve_in(
+    alloc: Global,
+    local: &TableRef<'_>,
+    target: &Target<'_>,
+    record: &[u32; 4],
+    candidates: &mut Vec<u32>,
+) -> Result<Resolved, RelocationError>
+    ensures { ResolvesFor local.now target.now «record».now candidates.old.items
+        candidates.new.items result }
+{
     let type_id = record[1];
     let question = question_of(alloc, local, target.table().endianness(), record)?;
     if let RelocationKind::TypeIdLocal = question.kind {
@@ -90,7 +107,7 @@ pub fn resolve(
 
 /// The value of a question about a type of this id for the program's own table, where the kind needs a search.
 pub fn expected_of(
-    local: &Btf,
+    local: &TableRef<'_>,
     type_id: u32,
     question: &Question<'_>,
 ) -> Result<Value, RelocationError>
@@ -110,7 +127,7 @@ pub fn expected_of(
 /// What a record asks, for a target of this byte order.
 pub fn question_of<'t>(
     alloc: Global,
-    local: &'t Btf,
+    local: &TableRef<'t>,
     order: Endianness,
     record: &[u32; 4],
 ) -> Result<Question<'t>, RelocationError>
@@ -133,7 +150,7 @@ pub fn question_of<'t>(
 /// What a record of this kind is about.
 fn subject_of<'t>(
     alloc: Global,
-    local: &'t Btf,
+    local: &TableRef<'t>,
     kind: RelocationKind,
     type_id: u32,
     access: &[u8],
@@ -171,7 +188,7 @@ fn subject_of<'t>(
 /// What a candidate has for the subject; `None` if it does not match.
 fn matching(
     alloc: Global,
-    local: &Btf,
+    local: &TableRef<'_>,
     target: &Target<'_>,
     kind: RelocationKind,
     subject: &Subject<'_>,
@@ -207,7 +224,7 @@ fn matching(
 
 /// The value of a match for a kind, in a table whose pointers have this size.
 fn value_of(
-    table: &Btf,
+    table: &TableRef<'_>,
     pointer_size: u32,
     kind: RelocationKind,
     found: &Match,
@@ -234,7 +251,7 @@ fn value_of(
 /// The answer of all candidates of a table that match, where an earlier answer is the first, and these candidates.
 pub fn table_answers(
     alloc: Global,
-    local: &Btf,
+    local: &TableRef<'_>,
     target: &Target<'_>,
     question: &Question<'_>,
     first: Option<Answer>,
@@ -252,7 +269,7 @@ pub fn table_answers(
 /// The same for candidates that are not too many.
 fn answers(
     alloc: Global,
-    local: &Btf,
+    local: &TableRef<'_>,
     target: &Target<'_>,
     question: &Question<'_>,
     first: Option<Answer>,
@@ -289,8 +306,8 @@ fn answers(
 
 /// What is written for the answer of the candidates, or if there is none.
 pub fn resolve_by(
-    local: &Btf,
-    target: &Btf,
+    local: &TableRef<'_>,
+    target: &TableRef<'_>,
     kind: RelocationKind,
     validates: bool,
     expected: &Value,
@@ -370,7 +387,7 @@ pub fn validates(kind: RelocationKind, subject: &Subject<'_>) -> bool
 
 /// Whether a load or store may get the size of the target's field: the sizes are equal, both types are PTRs, or both
 /// are INTs that are not plain signed numbers. Zero-extension is right for these.
-fn may_resize(local: &Btf, target: &Btf, expected: &Value, value: &Value) -> bool
+fn may_resize(local: &TableRef<'_>, target: &TableRef<'_>, expected: &Value, value: &Value) -> bool
     ensures { result ≡ model.may_resize local.now target.now expected.now value.now }
 {
     if expected.size == value.size {
@@ -382,12 +399,10 @@ fn may_resize(local: &Btf, target: &Btf, expected: &Value, value: &Value) -> boo
     let Ok(other) = type_at(target, value.type_id) else {
         return false;
     };
-    // Only a use of the kinds proves that the info words have them.
-    let _ = (one.kind(), other.kind());
-    match (one, other) {
-        (BtfType::Ptr(_), BtfType::Ptr(_)) => true,
-        (BtfType::Int(t), BtfType::Int(u)) => {
-            t.word() / 0x100_0000 % 16 != 1 && u.word() / 0x100_0000 % 16 != 1
+    match (one.kind(), other.kind()) {
+        (BtfKind::Ptr, BtfKind::Ptr) => true,
+        (BtfKind::Int, BtfKind::Int) => {
+            word_at(&one, 0) / 0x100_0000 % 16 != 1 && word_at(&other, 0) / 0x100_0000 % 16 != 1
         }
         _ => false,
     }

@@ -2,16 +2,16 @@
 
 ghost use Rattle.std.specs.Prelude.{◌≡◌, ◌≤◌, IfOk};
 ghost use Rattle.std.specs.Result.{OnOk};
-ghost use Rattle.btf_records.specs.BtfType.{record_of};
+ghost use Rattle.btf_view.specs.TypeRef.{record_in};
 ghost use Rattle.btf_relocate_model.specs.Search as model;
 ghost use Rattle.btf_relocate.specs.Gives.{Gives, GivesBy};
 ghost use Rattle.btf_relocate.specs.Searching.{within, from_id, found_of, levels_of, Remembers};
 
-use crate::field::{bits_of, member_field, members, move_bit};
+use crate::field::{bits_of, member_field, move_bit};
+use crate::kinds::{member_at, member_count};
 use crate::lookup::{name_or_none, resolve_id, type_at};
-use btf_records::BtfType;
 use btf_relocate_model::{Field, RelocationError};
-use btf_table::Btf;
+use btf_view::{TableRef, TypeRef};
 use std::alloc::Global;
 use std::collections::BTreeMap;
 
@@ -29,7 +29,7 @@ pub enum Found {
 /// with itself; `None` if there is none. At most `depth` members may be on the way.
 pub fn find_member(
     alloc: Global,
-    table: &Btf,
+    table: &TableRef<'_>,
     name: &[u8],
     type_id: u32,
     depth: u32,
@@ -47,7 +47,7 @@ pub fn find_member(
 /// Each call has a smaller depth than its caller, and the first has at most 64.
 #[cycle(search)]
 fn search(
-    table: &Btf,
+    table: &TableRef<'_>,
     name: &[u8],
     searched: &mut BTreeMap<u32, u32>,
     type_id: u32,
@@ -66,7 +66,7 @@ fn search(
         }
         return Ok(Found::Nothing(levels));
     }
-    let found = search_members(table, name, searched, btf_type, depth)?;
+    let found = search_members(table, name, searched, &btf_type, depth)?;
     if let Found::Nothing(levels) = found {
         searched.insert(end, levels)?;
     }
@@ -76,39 +76,42 @@ fn search(
 /// Searches the members of a type.
 #[cycle(search)]
 fn search_members(
-    table: &Btf,
+    table: &TableRef<'_>,
     name: &[u8],
     searched: &mut BTreeMap<u32, u32>,
-    btf_type: &BtfType,
+    btf_type: &TypeRef<'_>,
     depth: u32,
 ) -> Result<Found, RelocationError>
     requires { Remembers table.now name.now searched.old }
-    ensures found { Gives (within depth table.now name.now (record_of btf_type.now)) result }
+    ensures found { Gives (within depth table.now name.now (record_in btf_type.now)) result }
     ensures small { IfOk result (λ f. levels_of f ≤ depth) }
     ensures remembers { OnOk result (Remembers table.now name.now searched.new) }
 {
-    let members = members(btf_type);
-    if members.is_empty() {
+    let count = member_count(btf_type);
+    if count == 0 {
         return Ok(Found::Nothing(0));
     }
     if depth == 0 {
         return Err(RelocationError::TooDeep);
     }
     let mut levels: u32 = 0;
-    for (index, member) in members.iter().enumerate() {
+    for index in 0..count {
+        let Some(member) = member_at(btf_type, index) else {
+            return Ok(Found::Nothing(levels));
+        };
         let here = name_or_none(table, member.name_offset);
         if here.is_empty() {
             match search(table, name, searched, member.btf_type, depth - 1)? {
-                Found::Member(field, count) => {
-                    let (offset, _) = bits_of(btf_type, member);
+                Found::Member(field, further) => {
+                    let (offset, _) = bits_of(btf_type, &member);
                     let bit = move_bit(offset, u64::from(field.bit))?;
-                    return Ok(Found::Member(Field { bit, ..field }, count + 1));
+                    return Ok(Found::Member(Field { bit, ..field }, further + 1));
                 }
                 Found::Nothing(inner) => levels = levels.max(inner + 1),
             }
         } else if here == name {
-            let is_last = index + 1 == members.len();
-            return Ok(Found::Member(member_field(btf_type, member, 0, is_last)?, 1));
+            let is_last = index + 1 == count;
+            return Ok(Found::Member(member_field(btf_type, &member, 0, is_last)?, 1));
         } else {
             levels = levels.max(1);
         }

@@ -14,12 +14,13 @@ ghost use Rattle.btf_relocate.specs.SectionsAmong.{LeavesAfter, LeavesAll, Patch
 
 use crate::instruction::{instruction_at, patch};
 use crate::lookup::{name_or_none, type_at};
-use crate::modules::{Candidates, Targets, candidates_among, resolve_among};
+use crate::modules::{Candidates, Targets, candidates_among_in, resolve_among_in};
 use crate::target::Target;
 use btf_relocate_model::{
     Change, Instruction, Matched, Patched, RelocationError, Report, Resolved, Slot,
 };
 use btf_table::Btf;
+use btf_view::TableRef;
 use std::alloc::{AllocError, Global};
 use std::collections::BTreeMap;
 
@@ -132,6 +133,25 @@ pub fn relocate_records<'a, 't>(
     ensures left { OnOk result (LeavesAfter policy local.now targets.now left.old left.new
         records.now) }
 {
+    let local = TableRef::of_table(local);
+    relocate_all(alloc, &local, targets, records, code, policy, left)
+}
+
+/// The same for a program's own table, whatever holds it.
+fn relocate_all<'a, 't>(
+    alloc: Global,
+    local: &TableRef<'_>,
+    targets: &Targets<'a, 't>,
+    records: &[[u32; 4]],
+    code: &mut [u8],
+    policy: CandidatePolicy,
+    left: &mut LeftCandidates<'a, 't>,
+) -> Result<Vec<Report>, AllocError>
+    ensures reported { IfOk result (λ v. (v.items, code.new)
+        ≡ reported_among policy local.now targets.now left.old code.old records.now) }
+    ensures left { OnOk result (LeavesAfter policy local.now targets.now left.old left.new
+        records.now) }
+{
     let mut reports = Vec::with_capacity(alloc, records.len())?;
     for record in records {
         let shared = &mut left.lists;
@@ -152,7 +172,7 @@ pub fn relocate_records<'a, 't>(
 /// have left, if its type has one there.
 fn candidates_for<'a, 't>(
     alloc: Global,
-    local: &Btf,
+    local: &TableRef<'_>,
     targets: &Targets<'a, 't>,
     record: &[u32; 4],
     policy: CandidatePolicy,
@@ -165,16 +185,16 @@ fn candidates_for<'a, 't>(
     match policy {
         CandidatePolicy::Shared => match shared.remove(&record[1]) {
             Some(candidates) => Ok(candidates),
-            None => candidates_among(alloc, local, targets, record[1]),
+            None => candidates_among_in(alloc, local, targets, record[1]),
         },
-        CandidatePolicy::Fresh => candidates_among(alloc, local, targets, record[1]),
+        CandidatePolicy::Fresh => candidates_among_in(alloc, local, targets, record[1]),
     }
 }
 
 /// Resolves a record and patches its instruction, and returns what was done.
 fn relocate(
     alloc: Global,
-    local: &Btf,
+    local: &TableRef<'_>,
     targets: &Targets<'_, '_>,
     record: &[u32; 4],
     candidates: &mut Candidates<'_, '_>,
@@ -197,7 +217,7 @@ fn relocate(
 /// Resolves a record and patches its instruction. Returns the outcome, and the first type that matches.
 fn resolve_and_patch(
     alloc: Global,
-    local: &Btf,
+    local: &TableRef<'_>,
     targets: &Targets<'_, '_>,
     record: &[u32; 4],
     candidates: &mut Candidates<'_, '_>,
@@ -206,7 +226,7 @@ fn resolve_and_patch(
     ensures { PatchedAmong local.now (targets_view targets.now) «record».now candidates.old
         candidates.new code.old code.new result.0 result.1 }
 {
-    match resolve_among(alloc, local, targets, record, candidates) {
+    match resolve_among_in(alloc, local, targets, record, candidates) {
         Ok(resolved) => {
             let outcome = patch(code, record[0] as usize, local.endianness(), &resolved);
             (outcome, first_matched(&resolved, candidates))
@@ -285,6 +305,19 @@ fn access_size(slot: &Slot) -> u8
 pub fn candidates_of(
     alloc: Global,
     local: &Btf,
+    target: &Target<'_>,
+    type_id: u32,
+) -> Result<Vec<u32>, AllocError>
+    ensures { IfOk result (λ v. v.items ≡ candidates_of local.now target.now type_id) }
+{
+    let local = TableRef::of_table(local);
+    candidates_in(alloc, &local, target, type_id)
+}
+
+/// The same for a program's own table, whatever holds it.
+pub fn candidates_in(
+    alloc: Global,
+    local: &TableRef<'_>,
     target: &Target<'_>,
     type_id: u32,
 ) -> Result<Vec<u32>, AllocError>

@@ -3,36 +3,33 @@
 ghost use Rattle.std.specs.Prelude.{◌≡◌, ◌<◌, ◌*◌, ◌^◌, ◌≤◌, MatchResult};
 ghost use Rattle.btf_model.specs.Record.{kind_of};
 ghost use Rattle.btf_records.specs.BtfType.{record_of};
+ghost use Rattle.btf_view.specs.TypeRef.{record_in};
 ghost use Rattle.btf_relocate_model.specs.Types as model;
-ghost use Rattle.btf_relocate.specs.Extent.{searched_extent};
+ghost use Rattle.btf_table.specs.Extent.{extent_of};
 
+use crate::kinds::array_of;
+use btf_plain::BtfKind;
 use btf_records::BtfType;
 use btf_relocate_model::RelocationError;
-use btf_table::{Btf, WALK_LIMIT};
-
-/// What a type gives for its size.
-#[derive(Drop)]
-pub enum Extent {
-    /// The size is this number of bytes.
-    Bytes(u32),
-    /// The size is `count` times the size of another type.
-    Times(u32, u32),
-    /// The type gives no size.
-    Nothing,
-}
+use btf_table::{Extent, WALK_LIMIT};
+use btf_view::{TableRef, TypeRef};
 
 /// The size of a type in bytes, where a pointer has this size.
-pub fn size_of(table: &Btf, pointer_size: u32, type_id: u32) -> Result<u32, RelocationError>
+pub fn size_of(
+    table: &TableRef<'_>,
+    pointer_size: u32,
+    type_id: u32,
+) -> Result<u32, RelocationError>
     ensures { result ≡ model.size_of pointer_size table.now type_id }
 {
     let no_size = RelocationError::NoSize { type_id };
     let mut id = type_id;
     let mut count: u32 = 1;
     for _ in 0..WALK_LIMIT {
-        let Ok(btf_type) = table.type_by_id(id) else {
+        let Some(btf_type) = table.type_at(id) else {
             return Err(no_size);
         };
-        match extent_at(btf_type, pointer_size) {
+        match extent_at(&btf_type, pointer_size) {
             Extent::Bytes(bytes) => return bytes.checked_mul(count).ok_or(no_size),
             Extent::Times(times, next) => {
                 let Some(product) = count.checked_mul(times) else {
@@ -48,8 +45,21 @@ pub fn size_of(table: &Btf, pointer_size: u32, type_id: u32) -> Result<u32, Relo
 }
 
 /// What a type gives for its size.
-fn extent_at(btf_type: &BtfType, pointer_size: u32) -> Extent
-    ensures { searched_extent result ≡ model.extent_with pointer_size
+#[inline(always)]
+fn extent_at(btf_type: &TypeRef<'_>, pointer_size: u32) -> Extent
+    ensures { extent_of result ≡ model.extent_with pointer_size
+        (kind_of (record_in btf_type.now).info) (record_in btf_type.now) }
+{
+    match btf_type {
+        TypeRef::Parsed(parsed) => parsed_extent(parsed, pointer_size),
+        TypeRef::Viewed(_) => viewed_extent(*btf_type, pointer_size),
+    }
+}
+
+/// The same of a type that was parsed.
+#[inline(always)]
+fn parsed_extent(btf_type: &BtfType, pointer_size: u32) -> Extent
+    ensures { extent_of result ≡ model.extent_with pointer_size
         (kind_of (record_of btf_type.now).info) (record_of btf_type.now) }
 {
     // Only a use of the kind proves that the info word has it.
@@ -77,5 +87,35 @@ fn extent_at(btf_type: &BtfType, pointer_size: u32) -> Extent
         BtfType::Unknown | BtfType::Fwd(_) | BtfType::Func(_) | BtfType::FuncProto(_) => {
             Extent::Nothing
         }
+    }
+}
+
+/// The same, by the words of the type. It takes a copy of the type, so that one that was parsed stays in registers.
+#[inline(never)]
+fn viewed_extent(btf_type: TypeRef<'_>, pointer_size: u32) -> Extent
+    ensures { extent_of result ≡ model.extent_with pointer_size
+        (kind_of (record_in btf_type.entry).info) (record_in btf_type.entry) }
+{
+    match btf_type.kind() {
+        BtfKind::Int => Extent::Bytes(btf_type.third()),
+        BtfKind::Ptr => Extent::Bytes(pointer_size),
+        BtfKind::Array => match array_of(&btf_type) {
+            Some(array) => Extent::Times(array.len, array.element_type),
+            None => Extent::Nothing,
+        },
+        BtfKind::Struct => Extent::Bytes(btf_type.third()),
+        BtfKind::Union => Extent::Bytes(btf_type.third()),
+        BtfKind::Enum => Extent::Bytes(btf_type.third()),
+        BtfKind::DataSec => Extent::Bytes(btf_type.third()),
+        BtfKind::Float => Extent::Bytes(btf_type.third()),
+        BtfKind::Enum64 => Extent::Bytes(btf_type.third()),
+        BtfKind::Typedef => Extent::Times(1, btf_type.third()),
+        BtfKind::Volatile => Extent::Times(1, btf_type.third()),
+        BtfKind::Const => Extent::Times(1, btf_type.third()),
+        BtfKind::Restrict => Extent::Times(1, btf_type.third()),
+        BtfKind::Var => Extent::Times(1, btf_type.third()),
+        BtfKind::DeclTag => Extent::Times(1, btf_type.third()),
+        BtfKind::TypeTag => Extent::Times(1, btf_type.third()),
+        BtfKind::Unknown | BtfKind::Fwd | BtfKind::Func | BtfKind::FuncProto => Extent::Nothing,
     }
 }

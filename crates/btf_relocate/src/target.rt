@@ -15,9 +15,9 @@ ghost use Rattle.btf_relocate_model.specs.Types as model;
 
 use crate::lookup::name_or_none;
 use crate::name::essential_name;
-use btf_plain::{BtfError, BtfKind};
-use btf_records::BtfType;
-use btf_table::{Btf, type_count};
+use btf_plain::{BtfError, BtfKind, Head};
+use btf_table::Btf;
+use btf_view::TableRef;
 use std::alloc::{AllocError, Global};
 use std::cmp::Ordering;
 use std::marker::Model;
@@ -63,6 +63,15 @@ impl TargetIndex {
         ensures indexed { IfOk result (λ index. IndexesTable table.now index) }
         ensures only { IfErr result (λ e. e ≡ OutOfMemory) }
     {
+        let table = TableRef::of_table(table);
+        TargetIndex::of_types(alloc, &table)
+    }
+
+    /// The index of a table, whatever holds it.
+    fn of_types(alloc: Global, table: &TableRef<'_>) -> Result<TargetIndex, BtfError>
+        ensures indexed { IfOk result (λ index. IndexesTable table.now index) }
+        ensures only { IfErr result (λ e. e ≡ OutOfMemory) }
+    {
         let mut entries = types_with_name(alloc, table)?;
         entries.sort_by_key(|entry| (entry.name, entry.kind))?;
         let mut ids = Vec::with_capacity(alloc, entries.len())?;
@@ -78,6 +87,15 @@ impl TargetIndex {
     /// The ids of the types of the indexed table that have this kind and a name with the same essential name, in rising
     /// order. An ENUM64 counts as an ENUM.
     pub fn candidates(&self, table: &Btf, name: &[u8], kind: BtfKind) -> &[u32]
+        requires { IndexesTable table.now self.now }
+        ensures { result.now ≡ candidates table.now name.now (kind_code kind) }
+    {
+        let table = TableRef::of_table(table);
+        self.candidates_in(&table, name, kind)
+    }
+
+    /// The same of a table, whatever holds it.
+    fn candidates_in(&self, table: &TableRef<'_>, name: &[u8], kind: BtfKind) -> &[u32]
         requires { IndexesTable table.now self.now }
         ensures { result.now ≡ candidates table.now name.now (kind_code kind) }
     {
@@ -117,7 +135,7 @@ impl<'t> IndexRef<'t> {
 /// The table that a program is relocated against. It may have an index of its types by their essential names and kinds.
 #[derive(Debug, Drop)]
 pub struct Target<'t> {
-    table: &'t Btf,
+    table: TableRef<'t>,
     index: IndexRef<'t>,
 }
 
@@ -127,9 +145,9 @@ impl<'t> Model for Target<'t> {
 
     ghost Value = { Table };
 
-    ghost view = { λ g. g.table.now };
+    ghost view = { λ g. g.table };
 
-    ghost invariant = { λ g. IsIndexOf g.table.now g.index };
+    ghost invariant = { λ g. IsIndexOf g.table g.index };
 }
 
 impl<'t> Target<'t> {
@@ -140,7 +158,7 @@ impl<'t> Target<'t> {
     {
         let index = TargetIndex::new(alloc, table)?;
         Ok(Target {
-            table,
+            table: TableRef::of_table(table),
             index: IndexRef::Owned(index),
         })
     }
@@ -151,7 +169,7 @@ impl<'t> Target<'t> {
         ensures { result ≡ table.now }
     {
         Target {
-            table,
+            table: TableRef::of_table(table),
             index: IndexRef::Borrowed(index),
         }
     }
@@ -160,17 +178,25 @@ impl<'t> Target<'t> {
     pub fn without_index(table: &'t Btf) -> Target<'t>
         ensures { result ≡ table.now }
     {
+        Target::of_view(TableRef::of_table(table))
+    }
+
+    /// A table without an index, whatever holds it: one that was parsed, or a blob with the places of its records.
+    pub fn of_view(table: TableRef<'t>) -> Target<'t>
+        ensures { result ≡ table.entry }
+    {
+        let pointer_size = pointer_size(&table);
         Target {
             table,
-            index: IndexRef::Missing(pointer_size(table)),
+            index: IndexRef::Missing(pointer_size),
         }
     }
 
     /// The table.
-    pub fn table(&self) -> &'t Btf
+    pub fn table(&self) -> &TableRef<'t>
         ensures { result.now ≡ self.now }
     {
-        self.table
+        &self.table
     }
 
     /// The size of a pointer in bytes: the size of the first INT of 4 or 8 bytes with the name of the C type `long`, or
@@ -197,10 +223,10 @@ impl<'t> Target<'t> {
     {
         match self.index.get() {
             Some(index) => {
-                let ids = index.candidates(self.table, name, kind);
+                let ids = index.candidates_in(&self.table, name, kind);
                 Vec::from_slice(alloc, first_ids(ids))
             }
-            None => search(alloc, self.table, name, kind),
+            None => search(alloc, &self.table, name, kind),
         }
     }
 }
@@ -216,13 +242,18 @@ fn first_ids(ids: &[u32]) -> &[u32]
 }
 
 /// The candidates of a table without an index.
-fn search(alloc: Global, table: &Btf, name: &[u8], kind: BtfKind) -> Result<Vec<u32>, AllocError>
+fn search(
+    alloc: Global,
+    table: &TableRef<'_>,
+    name: &[u8],
+    kind: BtfKind,
+) -> Result<Vec<u32>, AllocError>
     ensures { IfOk result (λ v. v.items ≡ first_candidates table.now name.now (kind_code kind)) }
 {
     let essential = essential_name(name);
     let number = comparison_number(kind);
     let mut ids = Vec::new(alloc);
-    for type_id in 1..type_count(table) {
+    for type_id in 1..table.type_count() {
         if has_key(table, type_id, essential, number) {
             ids.push(type_id)?;
             if ids.len() > CANDIDATE_LIMIT {
@@ -234,17 +265,17 @@ fn search(alloc: Global, table: &Btf, name: &[u8], kind: BtfKind) -> Result<Vec<
 }
 
 /// Whether a type has this kind and a name with this essential name.
-fn has_key(table: &Btf, type_id: u32, name: &[u8], kind: u32) -> bool
+fn has_key(table: &TableRef<'_>, type_id: u32, name: &[u8], kind: u32) -> bool
     ensures { (r : Record) → slice_get table.now.records type_id ≡ Some r
         → result ≡ has_key table.now name.now kind r }
 {
-    let Ok(btf_type) = table.type_by_id(type_id) else {
+    let Some(head) = table.head(type_id) else {
         return false;
     };
-    if comparison_number(btf_type.kind()) != kind {
+    if compared_kind(&head) != kind {
         return false;
     }
-    let own_name = name_or_none(table, btf_type.name_offset());
+    let own_name = name_or_none(table, head.name);
     if own_name.is_empty() {
         return false;
     }
@@ -252,7 +283,7 @@ fn has_key(table: &Btf, type_id: u32, name: &[u8], kind: u32) -> bool
 }
 
 /// The order of the key of a type and another key.
-fn compare(table: &Btf, type_id: u32, name: &[u8], kind: u32) -> Ordering
+fn compare(table: &TableRef<'_>, type_id: u32, name: &[u8], kind: u32) -> Ordering
     ensures { result ≡ key_cmp (key_of table.now type_id) (name.now, kind) }
 {
     let (own_name, own_kind) = key_of(table, type_id);
@@ -260,15 +291,15 @@ fn compare(table: &Btf, type_id: u32, name: &[u8], kind: u32) -> Ordering
 }
 
 /// The key of a type in the index.
-fn key_of(table: &Btf, type_id: u32) -> (&[u8], u32)
+fn key_of<'t>(table: &TableRef<'t>, type_id: u32) -> (&'t [u8], u32)
     ensures { (result.0.now, result.1) ≡ key_of table.now type_id }
 {
-    match table.type_by_id(type_id) {
-        Ok(btf_type) => (
-            essential_name(name_or_none(table, btf_type.name_offset())),
-            comparison_number(btf_type.kind()),
+    match table.head(type_id) {
+        Some(head) => (
+            essential_name(name_or_none(table, head.name)),
+            compared_kind(&head),
         ),
-        Err(_) => (&[], 0),
+        None => (&[], 0),
     }
 }
 
@@ -284,13 +315,24 @@ pub fn comparison_number(kind: BtfKind) -> u32
     }
 }
 
+/// The same of the kind of a head.
+fn compared_kind(head: &Head) -> u32
+    ensures { result ≡ compared_number (kind_number head.now.info) }
+{
+    let kind = head.kind();
+    if kind == BtfKind::Enum64 as u32 {
+        return BtfKind::Enum as u32;
+    }
+    kind
+}
+
 /// The types that have a name, in rising order of their ids.
-fn types_with_name(alloc: Global, table: &Btf) -> Result<Vec<Entry<'_>>, AllocError>
+fn types_with_name<'t>(alloc: Global, table: &TableRef<'t>) -> Result<Vec<Entry<'t>>, AllocError>
     ensures { IfOk result (λ entries. AreEntries table.now entries.items
         (ids_with_name table.now)) }
 {
-    let mut entries = Vec::with_capacity(alloc, type_count(table) as usize)?;
-    for type_id in 1..type_count(table) {
+    let mut entries = Vec::with_capacity(alloc, table.type_count() as usize)?;
+    for type_id in 1..table.type_count() {
         let (name, kind) = key_of(table, type_id);
         if !name.is_empty() {
             entries.push(Entry {
@@ -304,17 +346,15 @@ fn types_with_name(alloc: Global, table: &Btf) -> Result<Vec<Entry<'_>>, AllocEr
 }
 
 /// The size of a pointer in the machine that a table describes.
-fn pointer_size(table: &Btf) -> u32
+fn pointer_size(table: &TableRef<'_>) -> u32
     ensures { result ≡ model.pointer_size table.now }
 {
-    for type_id in 0..type_count(table) {
-        let Ok(btf_type) = table.type_by_id(type_id) else {
+    for type_id in 0..table.type_count() {
+        let Some(btf_type) = table.type_at(type_id) else {
             return 8;
         };
-        // Only a use of the kind proves that the info word has it.
-        let _ = btf_type.kind();
-        if let BtfType::Int(int) = btf_type {
-            let size = int.size();
+        if let BtfKind::Int = btf_type.kind() {
+            let size = btf_type.third();
             let name = name_or_none(table, btf_type.name_offset());
             if (size == 4 || size == 8) && LONG_NAMES.iter().any(|long| name == long.as_bytes()) {
                 return size;

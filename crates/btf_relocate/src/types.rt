@@ -11,7 +11,8 @@ mod steps;
 mod walk;
 
 use btf_relocate_model::{Pair, RelocationError, Rule};
-use btf_table::{Btf, WALK_LIMIT};
+use btf_table::WALK_LIMIT;
+use btf_view::TableRef;
 use std::alloc::Global;
 use std::collections::BTreeMap;
 use walk::{Next, next_step, resolve_pair};
@@ -47,8 +48,8 @@ struct Progress {
 pub fn types_alike(
     alloc: Global,
     rule: Rule,
-    local: &Btf,
-    target: &Btf,
+    local: &TableRef<'_>,
+    target: &TableRef<'_>,
     local_id: u32,
     target_id: u32,
 ) -> Result<bool, RelocationError>
@@ -75,8 +76,8 @@ pub fn types_alike(
 fn advance(
     alloc: Global,
     rule: Rule,
-    local: &Btf,
-    target: &Btf,
+    local: &TableRef<'_>,
+    target: &TableRef<'_>,
     progress: &mut Progress,
     frame: &Frame,
     answer: Option<bool>,
@@ -119,8 +120,8 @@ fn advance(
 /// The answer of a pair, if it is known; otherwise its comparison begins.
 fn ask(
     rule: Rule,
-    local: &Btf,
-    target: &Btf,
+    local: &TableRef<'_>,
+    target: &TableRef<'_>,
     progress: &mut Progress,
     pair: &Pair,
 ) -> Result<Option<bool>, RelocationError>

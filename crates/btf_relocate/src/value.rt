@@ -2,15 +2,16 @@
 
 ghost use Rattle.std.specs.Prelude.{◌≡◌, ◌∷◌, []};
 ghost use Rattle.btf_model.specs.Record.{kind_of};
-ghost use Rattle.btf_records.specs.BtfType.{record_of};
+ghost use Rattle.btf_view.specs.TypeRef.{record_in};
 ghost use Rattle.btf_relocate_model.specs.Value as model;
 
+use crate::kinds::word_at;
 use crate::lookup::{resolve_id, type_at};
 use crate::size::size_of;
 use btf_model::Endianness;
-use btf_records::BtfType;
+use btf_plain::BtfKind;
 use btf_relocate_model::{Field, Load, RelocationError, RelocationKind, Value};
-use btf_table::Btf;
+use btf_view::{TableRef, TypeRef};
 
 /// A value that sets no size of a load or store.
 pub fn plain(value: u64) -> Value
@@ -25,7 +26,7 @@ pub fn plain(value: u64) -> Value
 
 /// The value of a field for a kind. Kinds that are not about fields have the value 0.
 pub fn field_value(
-    table: &Btf,
+    table: &TableRef<'_>,
     pointer_size: u32,
     kind: RelocationKind,
     field: &Field,
@@ -46,7 +47,7 @@ pub fn field_value(
 
 /// The value of an element, or of the type itself.
 fn element_value(
-    table: &Btf,
+    table: &TableRef<'_>,
     pointer_size: u32,
     kind: RelocationKind,
     field: &Field,
@@ -72,7 +73,7 @@ fn element_value(
 
 /// The value of a member by its load; its type resolves to this id.
 fn member_value(
-    table: &Btf,
+    table: &TableRef<'_>,
     kind: RelocationKind,
     field: &Field,
     type_id: u32,
@@ -91,7 +92,7 @@ fn member_value(
         RelocationKind::FieldByteSize => Ok(plain(u64::from(load.size))),
         RelocationKind::FieldSigned => {
             let btf_type = type_at(table, type_id)?;
-            Ok(plain(u64::from(is_signed(btf_type))))
+            Ok(plain(u64::from(is_signed(&btf_type))))
         }
         RelocationKind::FieldLShift64 => {
             let shift = left_shift(table.endianness(), load)?;
@@ -110,7 +111,7 @@ fn member_value(
 /// The load of a member whose type resolves to this id. The load of a bit-field is the least of 1, 2, 4 and 8 bytes,
 /// from the size of its type on, that is aligned and holds all of its bits.
 fn load_of(
-    table: &Btf,
+    table: &TableRef<'_>,
     pointer_size: u32,
     field: &Field,
     type_id: u32,
@@ -126,10 +127,11 @@ fn load_of(
             bits: u64::from(size) * 8,
         });
     }
-    let size = match type_at(table, type_id)? {
-        BtfType::Int(t) => t.size(),
-        BtfType::Enum(t) => t.size(),
-        BtfType::Enum64(t) => t.size(),
+    let btf_type = type_at(table, type_id)?;
+    let size = match btf_type.kind() {
+        BtfKind::Int => btf_type.third(),
+        BtfKind::Enum => btf_type.third(),
+        BtfKind::Enum64 => btf_type.third(),
         _ => 0,
     };
     if size == 1 || size == 2 || size == 4 || size == 8 {
@@ -177,16 +179,14 @@ fn left_shift(order: Endianness, load: &Load) -> Result<u64, RelocationError>
 }
 
 /// Whether a type is a signed INT, ENUM or ENUM64.
-pub fn is_signed(btf_type: &BtfType) -> bool
-    ensures { result ≡ model.is_signed_type (kind_of (record_of btf_type.now).info)
-        (record_of btf_type.now) }
+pub fn is_signed(btf_type: &TypeRef<'_>) -> bool
+    ensures { result ≡ model.is_signed_type (kind_of (record_in btf_type.now).info)
+        (record_in btf_type.now) }
 {
-    // Only a use of the kind proves that the info word has it.
-    let _ = btf_type.kind();
-    match btf_type {
-        BtfType::Int(t) => t.word() / 0x100_0000 % 16 % 2 == 1,
-        BtfType::Enum(t) => t.info() / 0x8000_0000 == 1,
-        BtfType::Enum64(t) => t.info() / 0x8000_0000 == 1,
+    match btf_type.kind() {
+        BtfKind::Int => word_at(btf_type, 0) / 0x100_0000 % 16 % 2 == 1,
+        BtfKind::Enum => btf_type.info() / 0x8000_0000 == 1,
+        BtfKind::Enum64 => btf_type.info() / 0x8000_0000 == 1,
         _ => false,
     }
 }

@@ -3,6 +3,7 @@ use Rattle.std.specs.Prelude.{ℕ, zero, suc, ◌*◌, List, [], ◌∷◌, drop
 use Rattle.std.specs.Option.{option_map}
 use Rattle.btf_model.specs.Record.{Record}
 use Rattle.btf_plain.specs.Kind as kinds
+use Rattle.btf_plain.specs.declared.head.Head.{Head}
 use Rattle.btf_records.specs.BtfType.{record_of}
 use Rattle.btf_view.specs.Words.{record_before}
 use Rattle.btf_view.specs.declared.record_words.RecordWords.{RecordWords}
@@ -17,6 +18,10 @@ record_of_words w = record_before (kinds.kind w.kind) w.endianness w.head w.tail
 abbrev pub record_in : TypeRef → Record
 record_in (Parsed t) = record_of t.now
 record_in (Viewed w) = record_of_words w
+
+-- the first three words of a record
+abbrev pub first_three : Record → Head
+first_three r = record { name = r.name; info = r.info; third = r.third }
 
 -- the first words of a list, if it has so many
 abbrev pub first_words : ℕ → List ℕ → Option (List ℕ)

@@ -49,7 +49,9 @@ impl<'a> RecordWords<'a> {
 
     /// The kind.
     pub(crate) fn kind(&self) -> BtfKind
-        ensures { kind_of (record_of_words self.now).info ≡ Some (kinds.kind result) }
+        ensures info { kind_of (record_of_words self.now).info ≡ Some (kinds.kind result) }
+        ensures tail { length (record_of_words self.now).tail
+            ≡ tail_words (kinds.kind result) (vlen (record_of_words self.now).info) }
     {
         self.kind
     }

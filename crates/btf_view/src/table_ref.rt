@@ -7,18 +7,17 @@ ghost use Rattle.btf_model.specs.Text.{bytes_at};
 ghost use Rattle.btf_model.specs.Walk.{Resolves};
 ghost use Rattle.btf_plain.specs.Error.{Meets};
 ghost use Rattle.btf_view.specs.Index.{IsIndexed};
-ghost use Rattle.btf_view.specs.TypeRef.{record_in};
+ghost use Rattle.btf_view.specs.TypeRef.{first_three, record_in};
 
 use crate::indexing::Sections;
-use crate::type_ref::TypeRef;
+use crate::type_ref::{TypeRef, third_of};
 use crate::view::View;
-use btf_plain::{BtfError, Endianness, Float};
-use btf_records::BtfType;
-use btf_table::{Btf, name_bytes, type_count};
+use btf_plain::{BtfError, Endianness, Head};
+use btf_table::{Btf, bytes_at, string_section, type_count};
 use std::marker::Model;
 
 /// A table in the bytes of a view, with three values of its header.
-#[derive(Clone, Copy)]
+#[derive(Clone, Copy, Debug)]
 struct ViewedTable<'a> {
     view: View<'a>,
     magic: u16,
@@ -26,8 +25,39 @@ struct ViewedTable<'a> {
     flags: u8,
 }
 
+impl<'a> ViewedTable<'a> {
+    ghost use Rattle.std.specs.Prelude.{◌≡◌, List, slice_get};
+    ghost use Rattle.std.specs.Option.{option_map};
+    ghost use Rattle.btf_model.specs.Record.{Record};
+    ghost use Rattle.btf_model.specs.Walk.{Resolves};
+    ghost use Rattle.btf_plain.specs.Error.{Meets};
+    ghost use Rattle.btf_view.specs.TypeRef.{record_in};
+    ghost use Rattle.btf_view.specs.View.{Shows};
+
+    /// The type of an id. It is not inlined, so that a parsed table, whose types are only borrowed, has a short way.
+    #[inline(never)]
+    fn type_at(&self, type_id: u32) -> Option<TypeRef<'a>>
+        ensures { (records : List Record) → Shows self.now.view records
+            → option_map record_in result ≡ slice_get records type_id }
+    {
+        match self.view.record(type_id) {
+            Some(words) => Some(TypeRef::Viewed(words)),
+            None => None,
+        }
+    }
+
+    /// The id of the type that an id resolves to, in a call of its own for the same reason.
+    #[inline(never)]
+    fn resolve(&self, type_id: u32) -> Result<u32, BtfError>
+        ensures { (records : List Record) → Shows self.now.view records
+            → Meets (λ id. id) result (Resolves records type_id) }
+    {
+        self.view.resolve(type_id)
+    }
+}
+
 /// What holds a table.
-#[derive(Clone, Copy)]
+#[derive(Clone, Copy, Debug)]
 enum Source<'a> {
     /// A table that was parsed.
     Parsed(&'a Btf),
@@ -36,7 +66,7 @@ enum Source<'a> {
 }
 
 /// A table that is read: one that was parsed, or a blob with the places of its records. In contracts it is the table.
-#[derive(Drop)]
+#[derive(Debug, Drop)]
 pub struct TableRef<'a> {
     source: Source<'a>,
 }
@@ -109,6 +139,7 @@ impl<'a> TableRef<'a> {
     }
 
     /// The type of an id; None if there is no such type.
+    #[inline(always)]
     pub fn type_at(&self, type_id: u32) -> Option<TypeRef<'a>>
         ensures { option_map record_in result ≡ slice_get self.now.records type_id }
     {
@@ -117,32 +148,53 @@ impl<'a> TableRef<'a> {
                 Ok(btf_type) => Some(TypeRef::Parsed(btf_type)),
                 Err(_) => None,
             },
-            Source::Viewed(table) => match table.view.record(type_id) {
-                Some(words) => Some(TypeRef::Viewed(words)),
-                None => None,
+            Source::Viewed(table) => table.type_at(type_id),
+        }
+    }
+
+    /// The first three words of a type; None if there is no such type. A search over all types needs no more of most of
+    /// them.
+    #[inline(always)]
+    pub fn head(&self, type_id: u32) -> Option<Head>
+        ensures { result ≡ option_map first_three (slice_get self.now.records type_id) }
+    {
+        match &self.source {
+            Source::Parsed(table) => match table.type_by_id(type_id) {
+                Ok(btf_type) => Some(Head {
+                    name: btf_type.name_offset(),
+                    info: btf_type.info(),
+                    third: third_of(btf_type),
+                }),
+                Err(_) => None,
+            },
+            Source::Viewed(table) => match table.view.head(type_id) {
+                Ok(head) => Some(head),
+                Err(_) => None,
             },
         }
     }
 
     /// The id of the type that an id resolves to, as `Btf::resolve_type` does.
+    #[inline(always)]
     pub fn resolve(&self, type_id: u32) -> Result<u32, BtfError>
         ensures { Meets (λ id. id) result (Resolves self.now.records type_id) }
     {
         match &self.source {
             Source::Parsed(table) => table.resolve_type(type_id),
-            Source::Viewed(table) => table.view.resolve(type_id),
+            Source::Viewed(table) => table.resolve(type_id),
         }
     }
 
     /// The bytes of the name at a string offset, up to the first zero byte; they need not be UTF-8. None if there is no
     /// zero byte at the offset or after it.
+    #[inline(always)]
     pub fn name(&self, offset: u32) -> Option<&'a [u8]>
         ensures { option_map (λ b. b.now) result ≡ bytes_at self.now.strings offset }
     {
-        match &self.source {
-            // `name_bytes` reads the name of a type, so ask for the name of one that has this offset.
-            Source::Parsed(table) => name_bytes(table, &BtfType::Float(Float::new(offset, 0))),
-            Source::Viewed(table) => table.view.name(offset),
-        }
+        let strings = match &self.source {
+            Source::Parsed(table) => string_section(table),
+            Source::Viewed(table) => table.view.strings,
+        };
+        bytes_at(strings, offset, 0)
     }
 }

@@ -1,6 +1,6 @@
 //! A type of a table, whatever holds the table.
 
-ghost use Rattle.std.specs.Prelude.{◌≡◌, ◌<◌, ◌^◌, Some, slice_get};
+ghost use Rattle.std.specs.Prelude.{◌≡◌, ◌<◌, ◌^◌, IfSome, Some, length, slice_get};
 ghost use Rattle.std.specs.List.{flat_map};
 ghost use Rattle.std.specs.Option.{option_map};
 ghost use Rattle.btf_model.specs.Record as model;
@@ -24,8 +24,11 @@ pub enum TypeRef<'a> {
 
 impl<'a> TypeRef<'a> {
     /// The kind.
+    #[inline(always)]
     pub fn kind(&self) -> BtfKind
-        ensures { kind_of (record_in self.now).info ≡ Some (kinds.kind result) }
+        ensures info { kind_of (record_in self.now).info ≡ Some (kinds.kind result) }
+        ensures tail { length (record_in self.now).tail
+            ≡ model.tail_words (kinds.kind result) (model.vlen (record_in self.now).info) }
     {
         match self {
             TypeRef::Parsed(btf_type) => btf_type.kind(),
@@ -34,6 +37,7 @@ impl<'a> TypeRef<'a> {
     }
 
     /// The string offset of the name.
+    #[inline(always)]
     pub fn name_offset(&self) -> u32
         ensures { result ≡ (record_in self.now).name }
     {
@@ -44,6 +48,7 @@ impl<'a> TypeRef<'a> {
     }
 
     /// The info word.
+    #[inline(always)]
     pub fn info(&self) -> u32
         ensures { result ≡ (record_in self.now).info }
     {
@@ -54,6 +59,7 @@ impl<'a> TypeRef<'a> {
     }
 
     /// The number of items, for the kinds that have a list.
+    #[inline(always)]
     pub fn vlen(&self) -> usize
         ensures value { result ≡ model.vlen (record_in self.now).info }
         ensures small { result < 2 ^ 16 }
@@ -62,6 +68,7 @@ impl<'a> TypeRef<'a> {
     }
 
     /// The third word: a size in bytes or the id of a type, by the kind; 0 for the kinds that have neither.
+    #[inline(always)]
     pub fn third(&self) -> u32
         ensures { result ≡ (record_in self.now).third }
     {
@@ -83,7 +90,20 @@ impl<'a> TypeRef<'a> {
 
     /// The item at an index, in a record whose words after the third are items of this type. The index is that of an
     /// item in a record, so it has 16 bits.
+    #[inline(always)]
     pub fn item<T: Item>(&self, index: u16) -> Option<T>
+        ensures { option_map T.item_words result ≡ item_at T.WIDTH (record_in self.now).tail index }
+    {
+        if let TypeRef::Parsed(btf_type) = self
+            && let Some(item) = stored_item(btf_type, index as usize)
+        {
+            return Some(item);
+        }
+        self.item_by_words(index)
+    }
+
+    /// The same, word by word.
+    fn item_by_words<T: Item>(&self, index: u16) -> Option<T>
         ensures { option_map T.item_words result ≡ item_at T.WIDTH (record_in self.now).tail index }
     {
         let first = T::WIDTH * index as usize;
@@ -104,7 +124,7 @@ impl<'a> TypeRef<'a> {
 }
 
 /// The third word of a type's record.
-fn third_of(btf_type: &BtfType) -> u32
+pub(crate) fn third_of(btf_type: &BtfType) -> u32
     ensures { result ≡ (record_of btf_type.now).third }
 {
     // Only a use of the info word proves that an ARRAY and a FWD have no third word.
@@ -154,6 +174,39 @@ fn word_of(btf_type: &BtfType, index: usize) -> Option<u32>
         BtfType::DeclTag(t) => [t.component_index().cast_unsigned()].get(index).copied(),
         BtfType::Enum64(t) => word_in(t.variants(), index),
         _ => None,
+    }
+}
+
+/// The item at an index of the list of a type, without a look at its words one by one; None if the type has none there
+/// or a list of items of another width.
+#[inline(always)]
+fn stored_item<T: Item>(btf_type: &BtfType, index: usize) -> Option<T>
+    ensures { IfSome result (λ item. Some (T.item_words item)
+        ≡ item_at T.WIDTH (record_of btf_type.now).tail index) }
+{
+    match btf_type {
+        BtfType::Struct(t) => item_in(t.members(), index),
+        BtfType::Union(t) => item_in(t.members(), index),
+        BtfType::Enum(t) => item_in(t.variants(), index),
+        BtfType::FuncProto(t) => item_in(t.params(), index),
+        BtfType::DataSec(t) => item_in(t.entries(), index),
+        BtfType::Enum64(t) => item_in(t.variants(), index),
+        _ => None,
+    }
+}
+
+/// The item at an index of items, as an item of another type of the same width; None if there is none.
+#[inline(always)]
+fn item_in<S: Item, T: Item>(items: &[S], index: usize) -> Option<T>
+    ensures { IfSome result (λ item. Some (T.item_words item)
+        ≡ item_at T.WIDTH (flat_map S.item_words items.now) index) }
+{
+    if S::WIDTH != T::WIDTH {
+        return None;
+    }
+    match items.get(index) {
+        Some(item) => Some(T::from_words(item.words())),
+        None => None,
     }
 }
 

@@ -28,7 +28,7 @@ use btf_plain::{
 use btf_table::bytes_at;
 
 /// A view of a table: the bytes of both sections, and the places of the records, which `index` finds.
-#[derive(Clone, Copy)]
+#[derive(Clone, Copy, Debug)]
 pub struct View<'a> {
     /// The byte order of the words.
     pub endianness: Endianness,

@@ -1,7 +1,7 @@
 //! Names of types, members and enumerators, when definitions are compared.
 
 ghost use Rattle.std.specs.Prelude.{◌≡◌, Ok};
-ghost use Rattle.btf_records.specs.BtfType.{record_of};
+ghost use Rattle.btf_view.specs.TypeRef.{record_in};
 ghost use Rattle.btf_relocate_model.specs.Comparison as model;
 ghost use Rattle.btf_relocate.specs.Gives.{Gives};
 ghost use Rattle.btf_relocate.specs.Steps.{GivesNames};
@@ -9,16 +9,15 @@ ghost use Rattle.btf_relocate.specs.Steps.{GivesNames};
 use crate::enumerator::{Enumerator, count};
 use crate::lookup::{name_at, name_or_none};
 use crate::name::essential_name;
-use btf_records::BtfType;
 use btf_relocate_model::RelocationError;
-use btf_table::Btf;
+use btf_view::{TableRef, TypeRef};
 use std::alloc::Global;
 use std::collections::BTreeSet;
 
 /// Whether two names have the same essential name; a name without a text in the target counts as empty.
 pub fn names_match(
-    local: &Btf,
-    target: &Btf,
+    local: &TableRef<'_>,
+    target: &TableRef<'_>,
     offset: u32,
     other: u32,
 ) -> Result<bool, RelocationError>
@@ -35,13 +34,13 @@ pub fn names_match(
 /// Whether the enumerators of two enumerations match: the target has each local one by its essential name.
 pub fn enumerators_match(
     alloc: Global,
-    local: &Btf,
-    target: &Btf,
-    one: &BtfType,
-    other: &BtfType,
+    local: &TableRef<'_>,
+    target: &TableRef<'_>,
+    one: &TypeRef<'_>,
+    other: &TypeRef<'_>,
 ) -> Result<bool, RelocationError>
-    ensures { Gives (model.named_enumerators local.now target.now (record_of one.now)
-        (record_of other.now)) result }
+    ensures { Gives (model.named_enumerators local.now target.now (record_in one.now)
+        (record_in other.now)) result }
 {
     if count(other) < count(one) {
         return Ok(false);
@@ -62,11 +61,11 @@ pub fn enumerators_match(
 /// The essential names of an enumeration's enumerators.
 fn essential_names<'t>(
     alloc: Global,
-    table: &'t Btf,
-    btf_type: &BtfType,
+    table: &TableRef<'t>,
+    btf_type: &TypeRef<'_>,
 ) -> Result<BTreeSet<&'t [u8]>, RelocationError>
     ensures { GivesNames (model.essential_names table.now
-        (model.enumerators_of (record_of btf_type.now))) result }
+        (model.enumerators_of (record_in btf_type.now))) result }
 {
     let mut names = BTreeSet::new(alloc);
     for index in 0..count(btf_type) {

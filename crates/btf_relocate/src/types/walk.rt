@@ -1,18 +1,21 @@
 //! What comes next of a comparison.
 
-ghost use Rattle.std.specs.Prelude.{◌≡◌, ◌<◌, ◌≤◌, drop, length, map, IfOk, IfSome};
+ghost use Rattle.std.specs.Prelude.{◌≡◌, ◌<◌, ◌≤◌, length, IfOk, IfSome};
 ghost use Rattle.btf_relocate_model.specs.Comparison as model;
+ghost use Rattle.btf_relocate_model.specs.Field.{members_of};
+ghost use Rattle.btf_view.specs.TypeRef.{record_in};
 ghost use Rattle.btf_relocate.specs.Comparing.{LeavesFewer, LeavesFewerPlaces};
-ghost use Rattle.btf_relocate.specs.Members.{member_of};
-ghost use Rattle.btf_relocate.specs.Steps.{Continues, NamedMember, NextMember, comparison, ResumesParameters};
+ghost use Rattle.btf_relocate.specs.Members.{member_of, parameters_of};
+ghost use Rattle.btf_relocate.specs.Steps.{Continues, NamedMemberOf, NextMemberOf, comparison, ResumesParameters};
 
 use super::Frame;
 use super::names::names_match;
 use super::steps::{Step, step_at};
+use crate::kinds::{member_at, member_count, parameter_at};
 use crate::lookup::resolve_id;
-use btf_plain::{BtfMember, BtfParam};
+use btf_plain::BtfMember;
 use btf_relocate_model::{Pair, RelocationError, Rule};
-use btf_table::Btf;
+use btf_view::{TableRef, TypeRef};
 use std::alloc::Global;
 
 /// What comes next of a comparison.
@@ -30,8 +33,8 @@ pub enum Next {
 /// The pair of the types that two ids resolve to.
 pub fn resolve_pair(
     rule: Rule,
-    local: &Btf,
-    target: &Btf,
+    local: &TableRef<'_>,
+    target: &TableRef<'_>,
     pair: &Pair,
 ) -> Result<Pair, RelocationError>
     ensures { result ≡ model.resolved_pair (comparison rule local.now target.now) pair.now }
@@ -49,8 +52,8 @@ pub fn resolve_pair(
 pub fn next_step(
     alloc: Global,
     rule: Rule,
-    local: &Btf,
-    target: &Btf,
+    local: &TableRef<'_>,
+    target: &TableRef<'_>,
     frame: &Frame,
     answer: Option<bool>,
 ) -> Result<Next, RelocationError>
@@ -66,12 +69,10 @@ pub fn next_step(
     match step_at(alloc, rule, local, target, &at)? {
         Step::Ends(is_alike) => Ok(Next::Ends(is_alike)),
         Step::GoesOn(pair) => Ok(Next::GoesOn(pair)),
-        Step::EachParameter(params, others, returned) => {
-            Ok(next_parameter(frame, answer, params, others, &returned))
+        Step::EachParameter(one, other, returned) => {
+            Ok(next_parameter(frame, answer, &one, &other, &returned))
         }
-        Step::EachMember(members, others) => {
-            next_member(local, target, frame, answer, members, others)
-        }
+        Step::EachMember(one, other) => next_member(local, target, frame, answer, &one, &other),
     }
 }
 
@@ -79,23 +80,27 @@ pub fn next_step(
 fn next_parameter(
     frame: &Frame,
     answer: Option<bool>,
-    params: &[BtfParam],
-    others: &[BtfParam],
+    one: &TypeRef<'_>,
+    other: &TypeRef<'_>,
     returned: &Pair,
 ) -> Next
-    ensures next { ResumesParameters frame.now answer params.now others.now returned.now result }
+    ensures next { ResumesParameters frame.now answer
+        (parameters_of (record_in one.now)) (parameters_of (record_in other.now)) returned.now result }
     ensures fewer { LeavesFewerPlaces frame.now.index frame.now.other result }
 {
     if let Some(false) = answer {
         return Next::Ends(false);
     }
     let index = frame.index;
-    let (Some(param), Some(other)) = (params.get(index), others.get(index)) else {
+    let (Some(parameter), Some(other_parameter)) = (
+        parameter_at(one, index),
+        parameter_at(other, index),
+    ) else {
         return Next::GoesOn(*returned);
     };
     let pair = Pair {
-        local: param.btf_type,
-        target: other.btf_type,
+        local: parameter,
+        target: other_parameter,
         is_pointee: returned.is_pointee,
     };
     Next::Asks(pair, index + 1, 0)
@@ -103,29 +108,29 @@ fn next_parameter(
 
 /// The next pair of members: each local member has a member of the target with its name whose type matches.
 fn next_member(
-    local: &Btf,
-    target: &Btf,
+    local: &TableRef<'_>,
+    target: &TableRef<'_>,
     frame: &Frame,
     answer: Option<bool>,
-    members: &[BtfMember],
-    others: &[BtfMember],
+    one: &TypeRef<'_>,
+    other: &TypeRef<'_>,
 ) -> Result<Next, RelocationError>
-    ensures next { NextMember local.now target.now (map member_of members.now)
-        (map member_of others.now) frame.now.index frame.now.other answer result }
+    ensures next { NextMemberOf local.now target.now (record_in one.now)
+        (record_in other.now) frame.now.index frame.now.other answer result }
     ensures fewer { IfOk result (LeavesFewerPlaces frame.now.index frame.now.other) }
 {
     let (index, from) = match answer {
         Some(true) => (frame.index.saturating_add(1), 0),
         _ => (frame.index, frame.other),
     };
-    let Some(member) = members.get(index) else {
+    let Some(member) = member_at(one, index) else {
         return Ok(Next::Ends(true));
     };
-    match match_member(local, target, member, others, from)? {
-        Some((other, after)) => {
+    match match_member(local, target, &member, other, from)? {
+        Some((found, after)) => {
             let pair = Pair {
                 local: member.btf_type,
-                target: other,
+                target: found,
                 is_pointee: false,
             };
             Ok(Next::Asks(pair, index, after))
@@ -137,21 +142,23 @@ fn next_member(
 /// The type of the first member of the target from an index on that has the name of a local member, and the index after
 /// it.
 fn match_member(
-    local: &Btf,
-    target: &Btf,
+    local: &TableRef<'_>,
+    target: &TableRef<'_>,
     member: &BtfMember,
-    others: &[BtfMember],
+    other: &TypeRef<'_>,
     from: usize,
 ) -> Result<Option<(u32, usize)>, RelocationError>
-    ensures found { NamedMember local.now target.now (member_of member.now)
-        (map member_of others.now) (drop from (map member_of others.now)) result }
+    ensures found { NamedMemberOf local.now target.now (member_of member.now)
+        (record_in other.now) from result }
     ensures later { IfOk result (λ found. IfSome found (λ p. (from < p.1)
-        × (p.1 ≤ length others.now))) }
+        × (p.1 ≤ length (members_of (record_in other.now))))) }
 {
-    for index in from..others.len() {
-        let other = &others[index];
-        if names_match(local, target, member.name_offset, other.name_offset)? {
-            return Ok(Some((other.btf_type, index + 1)));
+    for index in from..member_count(other) {
+        let Some(found) = member_at(other, index) else {
+            return Ok(None);
+        };
+        if names_match(local, target, member.name_offset, found.name_offset)? {
+            return Ok(Some((found.btf_type, index + 1)));
         }
     }
     Ok(None)

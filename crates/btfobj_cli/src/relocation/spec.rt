@@ -1,10 +1,12 @@
 //! What a record is about, in the words of libbpf's debug log (`bpf_core_format_spec`).
 
+use bstr::ByteSlice;
 use btf_plain::{BtfError, BtfKind};
 use btf_records::BtfType;
 use btf_relocate::{Access, RelocationKind};
 use btf_table::{Btf, BtfStr};
 use btf_text::kind_name;
+use btf_view::TableRef;
 use std::alloc::{AllocError, Global};
 use std::fmt;
 
@@ -20,25 +22,23 @@ pub fn name_text(table: &Btf, offset: u32) -> Result<BtfStr<'_>, AllocError> {
 /// A type as `[12] struct task_struct`.
 #[derive(Clone, Copy)]
 pub struct TypeText<'a> {
-    pub table: &'a Btf,
+    pub table: &'a TableRef<'a>,
     pub id: u32,
 }
 
 impl fmt::Display for TypeText<'_> {
     fn fmt<W: fmt::Write>(&self, f: &mut fmt::Formatter<W>) -> fmt::Result {
         let id = self.id;
-        let Ok(btf_type) = self.table.type_by_id(id) else {
+        let Some(btf_type) = self.table.type_at(id) else {
             return write!(f, "[{id}] (invalid)");
         };
         write!(f, "[{id}] ")?;
         write_kind(f, btf_type.kind())?;
-        let Ok(name) = name_text(self.table, btf_type.name_offset()) else {
-            return Err(fmt::Error);
-        };
-        if name.as_str().is_empty() {
-            return f.write_str(" <anon>");
+        match self.table.name(btf_type.name_offset()) {
+            None => f.write_str(" (invalid)"),
+            Some([]) => f.write_str(" <anon>"),
+            Some(name) => write!(f, " {}", name.as_bstr()),
         }
-        write!(f, " {}", name.as_str())
     }
 }
 
@@ -289,7 +289,8 @@ impl fmt::Display for Spec<'_> {
     fn fmt<W: fmt::Write>(&self, f: &mut fmt::Formatter<W>) -> fmt::Result {
         let (table, id) = (self.table, self.type_id());
         let [_, _, _, number] = self.record;
-        let about = TypeText { table, id };
+        let table = TableRef::of_table(table);
+        let about = TypeText { table: &table, id };
         match RelocationKind::try_from(number) {
             Ok(kind) if is_about_type(kind) => write!(f, "{kind} {about}"),
             Ok(kind) => {

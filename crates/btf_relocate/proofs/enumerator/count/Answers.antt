@@ -1,11 +1,21 @@
-use Rattle.std.proofs.Common.{length, sym, ap, ◌∙◌, List}
-use Rattle.std.proofs.lemmas.List.{length-map}
+use Rattle.std.proofs.Common.{◌∙◌, List, length, sym, ap}
+use Rattle.btf_model.specs.Record.{kind_of, vlen}
 use Rattle.btf_model.specs.Table.{Variant}
-use Rattle.btf_relocate.proofs.Enumerators.{narrow, wide, enum_has, enum64_has}
+use Rattle.btf_view.specs.TypeRef.{record_in}
+use Rattle.btf_relocate.proofs.Items.{narrow_counted, wide_counted, no_enumerators}
 use Rattle.btf_relocate.proofs.enumerator.count.Goals as goal
 
-pub returns-in-Enum : goal.returns-in-Enum
-returns-in-Enum c = sym (length-map c.variants.result.now narrow) ∙ ap (λ (vs : List Variant). length vs) (enum_has c.args.btf_type.now c.in-Enum.t c.variants.result.now c.in-Enum.is c.kind.ensures.info c.variants.ensures.words)
+pub returns-in-Enum-clause-value : goal.returns-in-Enum-clause-value
+returns-in-Enum-clause-value c =
+    let r = record_in c.args.btf_type.now in
+    c.vlen.ensures.value ∙ narrow_counted c.kind.result (kind_of r.info) (vlen r.info) r.tail c.kind.ensures.info c.in-Enum.is c.kind.ensures.tail
 
-pub returns-in-Enum64 : goal.returns-in-Enum64
-returns-in-Enum64 c = sym (length-map c.variants-in-Enum64.result.now wide) ∙ ap (λ (vs : List Variant). length vs) (enum64_has c.args.btf_type.now c.in-Enum64.t c.variants-in-Enum64.result.now c.in-Enum64.is c.kind.ensures.info c.variants-in-Enum64.ensures.words)
+pub returns-in-Enum64-clause-value : goal.returns-in-Enum64-clause-value
+returns-in-Enum64-clause-value c =
+    let r = record_in c.args.btf_type.now in
+    c.vlen-in-Enum64.ensures.value ∙ wide_counted c.kind.result (kind_of r.info) (vlen r.info) r.tail c.kind.ensures.info c.in-Enum64.is c.kind.ensures.tail
+
+pub returns-in_default-clause-value : goal.returns-in_default-clause-value
+returns-in_default-clause-value c =
+    let r = record_in c.args.btf_type.now in
+    sym (ap (λ (vs : List Variant). length vs) (no_enumerators c.kind.result (kind_of r.info) r.tail c.kind.ensures.info c.in_default.not-Enum c.in_default.not-Enum64))

@@ -1,6 +1,6 @@
 use Rattle.std.proofs.Common.{◌≡◌, ◌∙◌, ap, subst, rules}
 use Rattle.std.specs.Prelude.{Result}
-use Rattle.btf_records.specs.BtfType.{record_of}
+use Rattle.btf_view.specs.TypeRef.{record_in}
 use Rattle.btf_relocate_model.specs.Comparison as model
 use Rattle.btf_relocate_model.specs.declared.error.RelocationError.{RelocationError}
 use Rattle.btf_relocate.specs.Gives.{GivesBy}
@@ -10,8 +10,8 @@ use Rattle.btf_relocate.proofs.types.steps.exact_step.Goals.{in_default-via-in-S
 
 pub returns-in_default : goal.returns-in_default
 returns-in_default c =
-    let one = record_of c.args.one.now in
-    let other = record_of c.args.other.now in
+    let one = record_in c.args.one.now in
+    let other = record_in c.args.other.now in
     let few : Result model.Step RelocationError = model.few_members (by_kinds (model.matches_by c.args.is_pointee) one other) in
     let is : few ≡ model.exact_step c.args.local.now c.args.target.now c.args.is_pointee one other = elim c.in_default.branch [
       | in_default-via-in-Some+in_default w ↦ search rules

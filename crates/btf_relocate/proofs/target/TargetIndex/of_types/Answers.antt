@@ -3,7 +3,7 @@ use Rattle.std.proofs.lemmas.List.Sorted.{answers_always}
 use Rattle.btf_relocate.specs.Entries.{id_of}
 use Rattle.btf_relocate.specs.declared.target.Entry.{Entry}
 use Rattle.btf_relocate.proofs.Indexes.{index_made}
-use Rattle.btf_relocate.proofs.target.TargetIndex.new.Goals as goal
+use Rattle.btf_relocate.proofs.target.TargetIndex.of_types.Goals as goal
 
 pub returns-clause-indexed : goal.returns-clause-indexed
 returns-clause-indexed c =

@@ -2,7 +2,7 @@
 use Rattle.std.proofs.Common.{drop}
 use Rattle.btf_relocate.specs.Modules.{targets_view}
 use Rattle.btf_relocate.proofs.SectionsAmong.{Continues}
-use Rattle.btf_relocate.proofs.section.relocate_records.Given as goal
+use Rattle.btf_relocate.proofs.section.relocate_all.Given as goal
 
 abbrev pub invariant-loop-record : goal.invariant-loop-record
 invariant-loop-record l =

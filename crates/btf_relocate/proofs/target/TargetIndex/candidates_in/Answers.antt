@@ -3,7 +3,7 @@ use Rattle.std.proofs.lemmas.List.Sorted.{IsPartitionPoint-from_clause}
 use Rattle.std.specs.Ordering.{is_lt, is_le}
 use Rattle.btf_relocate.specs.Index.{IsIndex, kind_code, key_of, key_cmp}
 use Rattle.btf_relocate.proofs.Indexes.{Splits, below_parted, upto_parted, found_between, none_between}
-use Rattle.btf_relocate.proofs.target.TargetIndex.candidates.Goals as goal
+use Rattle.btf_relocate.proofs.target.TargetIndex.candidates_in.Goals as goal
 
 pub returns-then-start-end : goal.returns-then-start-end
 returns-then-start-end c =

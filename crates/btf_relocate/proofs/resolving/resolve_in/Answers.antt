@@ -10,8 +10,8 @@ use Rattle.btf_relocate_model.specs.declared.error.RelocationError.TheVariants.{
 use Rattle.btf_relocate_model.specs.declared.resolved.Resolved.{Resolved}
 use Rattle.btf_relocate.specs.Resolving.{question_view}
 use Rattle.btf_relocate.proofs.Resolves.{Asked, refused, answered_by, remain_some, remain_none, left_refused}
-use Rattle.btf_relocate.proofs.resolving.resolve.Goals as goal
-use Rattle.btf_relocate.proofs.resolving.resolve.Goals.{then-is_some, else-is_some}
+use Rattle.btf_relocate.proofs.resolving.resolve_in.Goals as goal
+use Rattle.btf_relocate.proofs.resolving.resolve_in.Goals.{then-is_some, else-is_some}
 
 pub returns-in_err-answer : goal.returns-in_err-answer
 returns-in_err-answer c =

@@ -1,0 +1,133 @@
+//! The parts of a type that its kind has.
+
+ghost use Rattle.std.specs.Prelude.{◌≡◌, ◌<◌, ◌^◌, IfSome, length, slice_get, slice_index};
+ghost use Rattle.std.specs.Option.{option_map};
+ghost use Rattle.btf_model.specs.Fields.{int_offset};
+ghost use Rattle.btf_model.specs.Record as model;
+ghost use Rattle.btf_plain.specs.Kind as kinds;
+ghost use Rattle.btf_records.specs.BtfType.{record_of};
+ghost use Rattle.btf_relocate_model.specs.Field.{members_of};
+ghost use Rattle.btf_relocate.specs.Members.{IsArrayOf, member_of, parameters_of};
+ghost use Rattle.btf_view.specs.TypeRef.{record_in};
+
+use btf_plain::{BtfArray, BtfKind, BtfMember, BtfParam};
+use btf_records::BtfType;
+use btf_view::TypeRef;
+
+/// The word at an index of those after the third; 0 if there is none.
+pub fn word_at(btf_type: &TypeRef<'_>, index: usize) -> u32
+    ensures { result ≡ slice_index (record_in btf_type.now).tail index }
+{
+    btf_type.word(index).unwrap_or(0)
+}
+
+/// The words of an ARRAY; `None` for a type of another kind.
+#[inline(always)]
+pub fn array_of(btf_type: &TypeRef<'_>) -> Option<BtfArray>
+    ensures { IsArrayOf (record_in btf_type.now) result }
+{
+    match btf_type {
+        TypeRef::Parsed(parsed) => parsed_array(parsed),
+        TypeRef::Viewed(_) => array_by_words(*btf_type),
+    }
+}
+
+/// The same of a type that was parsed.
+fn parsed_array(btf_type: &BtfType) -> Option<BtfArray>
+    ensures { IsArrayOf (record_of btf_type.now) result }
+{
+    // Only a use of the kind proves that the info word has it.
+    let _ = btf_type.kind();
+    match btf_type {
+        BtfType::Array(t) => {
+            let array = t.array();
+            Some(BtfArray {
+                element_type: array.element_type,
+                index_type: array.index_type,
+                len: array.len,
+            })
+        }
+        _ => None,
+    }
+}
+
+/// The same, word by word. It takes a copy of the type, so that one that was parsed stays in registers.
+#[inline(never)]
+fn array_by_words(btf_type: TypeRef<'_>) -> Option<BtfArray>
+    ensures { IsArrayOf (record_in btf_type.entry) result }
+{
+    match btf_type.kind() {
+        BtfKind::Array => Some(BtfArray {
+            element_type: word_at(&btf_type, 0),
+            index_type: word_at(&btf_type, 1),
+            len: word_at(&btf_type, 2),
+        }),
+        _ => None,
+    }
+}
+
+/// The number of members of a STRUCT or UNION; 0 for a type of another kind.
+#[inline(always)]
+pub fn member_count(btf_type: &TypeRef<'_>) -> usize
+    ensures value { result ≡ length (members_of (record_in btf_type.now)) }
+    ensures small { result < 2 ^ 16 }
+{
+    if is_composite(btf_type.kind()) {
+        btf_type.vlen()
+    } else {
+        0
+    }
+}
+
+/// The member at an index of a STRUCT or UNION; `None` if the type has none there.
+#[inline(always)]
+pub fn member_at(btf_type: &TypeRef<'_>, index: usize) -> Option<BtfMember>
+    ensures member { option_map member_of result
+        ≡ slice_get (members_of (record_in btf_type.now)) index }
+    ensures small { IfSome result (λ _. index < 2 ^ 16) }
+{
+    if index >= member_count(btf_type) {
+        return None;
+    }
+    btf_type.item(index as u16)
+}
+
+/// The number of parameters of a FUNC_PROTO; 0 for a type of another kind.
+pub fn parameter_count(btf_type: &TypeRef<'_>) -> usize
+    ensures value { result ≡ length (parameters_of (record_in btf_type.now)) }
+    ensures small { result < 2 ^ 16 }
+{
+    match btf_type.kind() {
+        BtfKind::FuncProto => btf_type.vlen(),
+        _ => 0,
+    }
+}
+
+/// The id of the type of the parameter at an index of a FUNC_PROTO; `None` if the type has none there.
+pub fn parameter_at(btf_type: &TypeRef<'_>, index: usize) -> Option<u32>
+    ensures parameter { result ≡ slice_get (parameters_of (record_in btf_type.now)) index }
+    ensures small { IfSome result (λ _. index < 2 ^ 16) }
+{
+    if index >= parameter_count(btf_type) {
+        return None;
+    }
+    match btf_type.item::<BtfParam>(index as u16) {
+        Some(parameter) => Some(parameter.btf_type),
+        None => None,
+    }
+}
+
+/// Whether a kind is STRUCT or UNION.
+#[inline(always)]
+pub fn is_composite(kind: BtfKind) -> bool
+    ensures { result ≡ model.is_composite (kinds.kind kind) }
+{
+    matches!(kind, BtfKind::Struct | BtfKind::Union)
+}
+
+/// The bit at which an INT begins.
+pub fn int_offset(btf_type: &TypeRef<'_>) -> u32
+    ensures { result ≡ int_offset (record_in btf_type.now) }
+{
+    word_at(btf_type, 0) / 0x1_0000 % 0x100
+}
