@@ -68,7 +68,7 @@ fn time_works(rt: &HostRuntime, words: &[String], reps: usize, form: Form) -> Re
     let btf = Btf::parse(rt.alloc(), &blob, Endianness::Little)?;
     let what = word(words, 1);
     let bench = Bench::new(rt.alloc(), &blob, &btf)?;
-    if !what.is_empty() && what != "all" {
+    if !matches!(what, "" | "all") {
         return time(rt, &bench, what, reps, form);
     }
     for name in &NAMES {

@@ -7,8 +7,8 @@ use std::alloc::Global;
 use std::test::Fail;
 use std::time::Instant;
 
-/// The operation and the registers of the instruction r1 = 0.
-const FRONT: [u8; 4] = [0xb7, 1, 0, 0];
+/// The instruction r1 = 0, whose immediate is in the high half.
+const MOVE: u64 = 0x01b7;
 
 /// The table of a program, that of a kernel, and a section of the program: its records, and an instruction for each.
 #[derive(Drop)]
@@ -51,8 +51,8 @@ impl<'a> Relocations<'a> {
         for line in lines.lines() {
             let record = record(u32::try_from(code.len())?, line);
             let value = expected(alloc, local, &target, &record);
-            code.extend_from_slice(&FRONT)?;
-            code.extend_from_slice(&((value & 0xffff_ffff) as u32).to_le_bytes())?;
+            let instruction = (value & 0xffff_ffff) << 32 | MOVE;
+            code.extend_from_slice(&instruction.to_le_bytes())?;
             records.push(record)?;
         }
         Ok(Relocations {

@@ -2,11 +2,12 @@
 
 use crate::output::Output;
 use crate::run::{Answer, Cause, Failure, blame, hasher, read, read_over, read_table, write};
-use btf_loader::{CandidatePolicy, Refusals};
+use btf_loader::{CandidatePolicy, Refusals, SectionOutcomes};
 use btf_relocate::{Target, Targets};
 use btf_table::Btf;
 use btfobj_cli::{
-    Ending, Fault, Form, Relocated, Relocation, asks_for_few_types, list_relocations, relocate,
+    Ending, Fault, Form, Relocated, Relocation, TableInPlace, asks_for_few_types, list_relocations,
+    relocate, running_base,
 };
 
 /// Relocates the code of an object. Writes the new object, or without an output what was done for its records; as JSON
@@ -18,9 +19,35 @@ pub fn relocate_file<'a>(
     out: &mut Output<'_>,
 ) -> Result<Answer, Failure<'a>> {
     let bytes = read(rt, file)?;
+    let searches = searches_of(rt, file, &bytes, relocation.policy);
+    if is_read_in_place(relocation, searches) {
+        return relocate_in_place(rt, file, &bytes, relocation, out);
+    }
     let table = read_table(rt, relocation.target, relocation.base)?;
     let tables = read_modules(rt, &relocation.modules, &table)?;
-    relocate_over(rt, file, &bytes, relocation, &table, &tables, out)
+    relocate_over(rt, file, &bytes, relocation, searches, &table, &tables, out)
+}
+
+/// Whether the target's table is read in the bytes of its file, because few types of it are needed.
+fn is_read_in_place(relocation: &Relocation<'_>, searches: Searches) -> bool {
+    match (searches, relocation.base, running_base(relocation.target)) {
+        (Searches::Few, None, None) => relocation.modules.is_empty(),
+        _ => false,
+    }
+}
+
+/// Relocates the code of an object for a table in the bytes of its file.
+fn relocate_in_place<'a>(
+    rt: &HostRuntime,
+    file: &'a str,
+    bytes: &[u8],
+    relocation: &Relocation<'a>,
+    out: &mut Output<'_>,
+) -> Result<Answer, Failure<'a>> {
+    let target = read(rt, relocation.target)?;
+    let table = blame(relocation.target, TableInPlace::of_file(rt.alloc(), &target))?;
+    let kernel = Target::of_view(table.table());
+    relocate_for(rt, file, bytes, relocation, &kernel, &[], out)
 }
 
 /// Relocates the code of an object for these tables: a kernel's, and those of its modules.
@@ -29,11 +56,11 @@ fn relocate_over<'a, 't>(
     file: &'a str,
     bytes: &[u8],
     relocation: &Relocation<'a>,
+    searches: Searches,
     table: &'t Btf,
     tables: &'t [Btf],
     out: &mut Output<'_>,
 ) -> Result<Answer, Failure<'a>> {
-    let searches = searches_of(rt, file, bytes, relocation.policy);
     let kernel = target_over(rt, relocation.target, table, searches)?;
     let modules = targets_over(rt, &relocation.modules, tables, searches)?;
     relocate_for(rt, file, bytes, relocation, &kernel, &modules, out)
@@ -51,9 +78,7 @@ fn relocate_for<'a, 'b, 't>(
 ) -> Result<Answer, Failure<'a>> {
     let targets = Targets { kernel, modules };
     let (policy, refusals) = (relocation.policy, relocation.refusals);
-    let keys = hasher(rt, file)?;
-    let relocated = relocate(rt.alloc(), bytes, &targets, policy, refusals, keys);
-    let (written, sections) = blame(file, relocated)?;
+    let (written, sections) = relocated(rt, file, bytes, &targets, policy, refusals)?;
     let relocated = Relocated {
         bytes,
         sections: &sections,
@@ -69,6 +94,22 @@ fn relocate_for<'a, 'b, 't>(
         Ending::Poisoned if relocation.allows_poison => Answer::Yes,
         ending => Answer::from(ending),
     })
+}
+
+/// The object relocated for these tables, and what was done for its records.
+fn relocated<'a>(
+    rt: &HostRuntime,
+    file: &'a str,
+    bytes: &[u8],
+    targets: &Targets<'_, '_>,
+    policy: CandidatePolicy,
+    refusals: Refusals,
+) -> Result<(Vec<u8>, Vec<SectionOutcomes>), Failure<'a>> {
+    let keys = hasher(rt, file)?;
+    blame(
+        file,
+        relocate(rt.alloc(), bytes, targets, policy, refusals, keys),
+    )
 }
 
 /// Writes the number of relocation records of an object, and the records that the table of a file cannot satisfy.
@@ -87,9 +128,7 @@ pub fn summarize<'a>(
         kernel: &target,
         modules: &[],
     };
-    let keys = hasher(rt, file)?;
-    let relocated = relocate(rt.alloc(), bytes, &targets, policy, refusals, keys);
-    let (_, sections) = blame(file, relocated)?;
+    let (_, sections) = relocated(rt, file, bytes, &targets, policy, refusals)?;
     let relocated = Relocated {
         bytes,
         sections: &sections,

@@ -5,3 +5,4 @@ pub mod Part
 pub mod Changes
 pub mod Compat
 pub mod Relocation
+pub mod InPlace

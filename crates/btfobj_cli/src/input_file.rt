@@ -5,7 +5,7 @@ ghost use Rattle.btfobj_cli.specs.InputFile.{IsFirstSection};
 ghost use Rattle.btfobj_cli.specs.Fault.{LacksSection};
 
 use crate::fault::Fault;
-use crate::split::{check_base, continues_base};
+use crate::split::{check_base, is_split};
 use btf_elf::Object;
 use btf_model::Endianness;
 use btf_split::parse_split;
@@ -112,7 +112,7 @@ impl<'a> InputFile<'a> {
     }
 
     /// Whether the file is an object with a section `.BTF.base`.
-    fn has_distilled_base(&self) -> bool {
+    pub(crate) fn has_distilled_base(&self) -> bool {
         match self {
             InputFile::Object(object) => object
                 .section_by_name(DISTILLED_SECTION.as_bytes())
@@ -138,7 +138,7 @@ impl<'a> InputFile<'a> {
         ensures { IfOk result (HasFileTable self.now) }
     {
         let table = self.table(alloc)?;
-        if continues_base(&table) {
+        if is_split(&table) {
             return Err(Fault::Split);
         }
         Ok(table)

@@ -2,25 +2,50 @@
 
 use crate::fault::Fault;
 use crate::input_file::InputFile;
+use btf_plain::{BtfKind, Head};
 use btf_records::BtfType;
-use btf_table::{Btf, comparable_end, string_section, type_count};
+use btf_table::{Btf, readable_end, string_section, type_count};
+use btf_view::TableRef;
 use std::alloc::Global;
 
-/// Whether the name of a type, or the type that it refers to, is not in the table. The names and ids of split BTF begin
-/// after those of its base table, so few of them are in the table itself.
-pub fn continues_base(table: &Btf) -> bool {
+/// Whether the name of a type, or the type that it refers to, is not in the table, whose strings are these. The names
+/// and ids of split BTF begin after those of its base table, so few of them are in the table itself.
+pub fn continues_base(table: &TableRef<'_>, strings: &[u8]) -> bool {
     // A name can be read at each offset below this end.
-    let Some(end) = comparable_end(table, "") else {
-        return false;
-    };
-    let count = table.types().len();
-    for btf_type in table.types() {
-        let target = btf_type.btf_type().unwrap_or(0);
-        if btf_type.name_offset() as usize >= end || target as usize >= count {
+    let end = readable_end(strings);
+    let count = table.type_count();
+    for type_id in 0..count {
+        let Some(head) = table.head(type_id) else {
+            return false;
+        };
+        if head.name as usize >= end || referred(&head) >= count {
             return true;
         }
     }
     false
+}
+
+/// The id of the one type that a type refers to; 0 if it refers to none or to many, or is a function.
+fn referred(head: &Head) -> u32 {
+    match BtfKind::try_from(head.kind()) {
+        Ok(
+            BtfKind::Ptr
+            | BtfKind::Typedef
+            | BtfKind::Volatile
+            | BtfKind::Const
+            | BtfKind::Restrict
+            | BtfKind::FuncProto
+            | BtfKind::Var
+            | BtfKind::DeclTag
+            | BtfKind::TypeTag,
+        ) => head.third,
+        _ => 0,
+    }
+}
+
+/// Whether a table that was parsed continues a base.
+pub fn is_split(table: &Btf) -> bool {
+    continues_base(&TableRef::of_table(table), string_section(table))
 }
 
 /// The table of a file, if it has one.
@@ -39,7 +64,7 @@ pub fn check_base(table: &Btf, base: Option<&Btf>) -> Result<(), Fault> {
             Some(type_id) => Err(Fault::OtherBase(type_id)),
             None => Ok(()),
         },
-        None if continues_base(table) => Err(Fault::Split),
+        None if is_split(table) => Err(Fault::Split),
         None => Ok(()),
     }
 }

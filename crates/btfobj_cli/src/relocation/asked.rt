@@ -1,7 +1,6 @@
 //! How many types of a target an object asks for.
 
 use crate::fault::Fault;
-use crate::input_file::InputFile;
 use crate::relocation::read_parts;
 use arrayvec::ArrayVec;
 use std::alloc::Global;
@@ -19,8 +18,7 @@ pub fn asks_for_few_types<H: BuildHasher + Clone + Drop>(
     bytes: &[u8],
     hash_builder: H,
 ) -> Result<bool, Fault> {
-    let input = InputFile::read(alloc, bytes)?;
-    let (_, ext) = read_parts(alloc, &input, hash_builder)?;
+    let (_, ext) = read_parts(alloc, bytes, hash_builder)?;
     let mut types = ArrayVec::new();
     for (_, records) in ext.relocations() {
         if !add_types(&mut types, records) {
