@@ -21,7 +21,7 @@ use Rattle.btf_relocate_model.specs.Enumerator.{enumerators_by, narrow_enumerato
 use Rattle.btf_relocate_model.specs.Field.{Member, members_by, members_in, members_of}
 use Rattle.btf_relocate_model.specs.Instruction.{sign_extended}
 use Rattle.btf_relocate.specs.Members.{member_of, parameters_by, parameters_of}
-use Rattle.btf_relocate.proofs.Enumerators.{narrow, wide}
+use Rattle.btf_relocate.specs.Enumerators.{narrow, wide}
 use Rattle.btf_view.specs.TypeRef.{first_words, item_at}
 use Rattle.btf_view.proofs.Words.{no_item}
 

@@ -7,6 +7,7 @@ mod Searches
 mod Paths
 mod Enumerators
 mod Items
+mod Members
 mod Errors
 mod Pointers
 mod Answering

@@ -11,13 +11,13 @@ use Rattle.btf_model.specs.Record.{Record, Kind, kind_of}
 use Rattle.btf_model.specs.Table.{Table}
 use Rattle.btf_relocate_model.specs.Comparison as model
 use Rattle.btf_relocate_model.specs.Comparison.{Comparison, each_parameter, each_member, some_member, resolved_pair, step_at, walked, pair, is_enumeration}
-use Rattle.btf_relocate_model.specs.Field.{Member, members_of}
+use Rattle.btf_relocate_model.specs.Field.{Member}
 use Rattle.btf_relocate_model.specs.Types.{◌>>=◌}
 use Rattle.btf_relocate_model.specs.declared.comparison.Pair.{Pair}
 use Rattle.btf_relocate_model.specs.declared.comparison.Rule.{Rule}
 use Rattle.btf_relocate_model.specs.declared.error.RelocationError.{RelocationError}
 use Rattle.btf_relocate_model.specs.declared.error.RelocationError.TheVariants.{OutOfMemory, MaximumTypeDepthReached}
-use Rattle.btf_relocate.specs.Members.{parameters_of}
+use Rattle.btf_relocate.specs.Members.{members_in, parameters_of}
 use Rattle.btf_relocate.specs.declared.types.Frame.{Frame}
 use Rattle.btf_relocate.specs.declared.types.steps.Step.{Step}
 use Rattle.btf_relocate.specs.declared.types.steps.Step.TheVariants as code
@@ -33,7 +33,7 @@ step_view (code.Ends is_alike) = model.Ends is_alike
 step_view (code.GoesOn p) = model.GoesOn p
 step_view (code.EachParameter one other returned) =
     model.EachParameter (parameters_of (record_in one)) (parameters_of (record_in other)) returned
-step_view (code.EachMember one other) = model.EachMember (members_of (record_in one)) (members_of (record_in other))
+step_view (code.EachMember members others) = model.EachMember (members_in members) (members_in others)
 
 abbrev pub comparison : Rule → Table → Table → Comparison
 comparison rule local target = record { rule = rule; local = local; target = target }
@@ -98,10 +98,6 @@ NextMember local target members others index other answer (Err e) =
     (inner further : Compare)
     → resumed inner further local target (model.EachMember members others) index other answer ≡ Err e
 
--- what comes next of the members of two types with these records
-abbrev pub NextMemberOf : Table → Table → Record → Record → ℕ → ℕ → Option Bool → Result Next RelocationError → Type 0
-NextMemberOf local target r s = NextMember local target (members_of r) (members_of s)
-
 -- what is left of a comparison, of so many positions
 abbrev pub rest_by : ℕ → Compare → Comparison → Frame → Option Bool → Result Bool RelocationError
 rest_by zero inner c f answer = Err (MaximumTypeDepthReached f.start.local)
@@ -133,10 +129,6 @@ NamedMember local target m others from (Ok (Some found)) =
     if is_alike then Ok true else some_member inner local target m (drop found.1 others))
 NamedMember local target m others from (Ok None) = (inner : Compare) → some_member inner local target m from ≡ Ok false
 NamedMember local target m others from (Err e) = (inner : Compare) → some_member inner local target m from ≡ Err e
-
--- a member with the name of a type with this record, from an index on
-abbrev pub NamedMemberOf : Table → Table → Member → Record → ℕ → Result (Option (ℕ × ℕ)) RelocationError → Type 0
-NamedMemberOf local target m r from = NamedMember local target m (members_of r) (drop from (members_of r))
 
 -- whether a set has a name
 abbrev pub has_name : BTreeSet (Bor (List ℕ)) → Bor (List ℕ) → Bool

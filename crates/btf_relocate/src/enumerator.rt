@@ -2,15 +2,17 @@
 
 ghost use Rattle.std.specs.Prelude.{◌≡◌, ◌<◌, ◌^◌, length, slice_get};
 ghost use Rattle.std.specs.Option.{option_map};
+ghost use Rattle.btf_records.specs.BtfType.{record_of};
 ghost use Rattle.btf_view.specs.TypeRef.{record_in};
 ghost use Rattle.btf_relocate_model.specs.Enumerator as model;
-ghost use Rattle.btf_relocate.specs.Enumerators.{enumerator_variant, type_enumerators};
+ghost use Rattle.btf_relocate.specs.Enumerators.{enumerator_variant, narrow, type_enumerators, wide};
 ghost use Rattle.btf_relocate.specs.Gives.{IsBy};
 
 use crate::instruction::sign_extended_32;
 use crate::lookup::{name_at, resolve_to_type};
 use crate::name::essential_name;
 use btf_plain::{BtfEnum, BtfEnum64, BtfKind};
+use btf_records::BtfType;
 use btf_relocate_model::RelocationError;
 use btf_view::{TableRef, TypeRef};
 
@@ -29,14 +31,63 @@ impl Enumerator {
         ensures { option_map enumerator_variant result
             ≡ slice_get (type_enumerators (record_in btf_type.now)) index }
     {
-        if index >= count(btf_type) {
-            return None;
+        match btf_type {
+            TypeRef::Parsed(parsed) => parsed_at(parsed, index),
+            TypeRef::Viewed(_) => viewed_at(btf_type, index),
         }
-        match btf_type.kind() {
-            BtfKind::Enum => narrow_at(btf_type, index as u16),
-            BtfKind::Enum64 => wide_at(btf_type, index as u16),
-            _ => None,
-        }
+    }
+}
+
+/// The enumerator of an ENUM.
+#[inline(always)]
+fn narrow(variant: &BtfEnum) -> Enumerator
+    ensures { enumerator_variant result ≡ narrow variant.now }
+{
+    Enumerator {
+        name_offset: variant.name_offset,
+        value: sign_extended_32(variant.value),
+    }
+}
+
+/// The enumerator of an ENUM64.
+#[inline(always)]
+fn wide(variant: &BtfEnum64) -> Enumerator
+    ensures { enumerator_variant result ≡ wide variant.now }
+{
+    Enumerator {
+        name_offset: variant.name_offset,
+        value: u64::from(variant.value_high) * 0x1_0000_0000 + u64::from(variant.value_low),
+    }
+}
+
+/// The enumerator of a type that was parsed.
+#[inline(always)]
+fn parsed_at(btf_type: &BtfType, index: usize) -> Option<Enumerator>
+    ensures { option_map enumerator_variant result
+        ≡ slice_get (type_enumerators (record_of btf_type.now)) index }
+{
+    // Only a use of the kind proves that the info word has it.
+    let _ = btf_type.kind();
+    match btf_type {
+        BtfType::Enum(t) => t.variants().get(index).map(|variant| narrow(variant)),
+        BtfType::Enum64(t) => t.variants().get(index).map(|variant| wide(variant)),
+        _ => None,
+    }
+}
+
+/// The same by the words of the type.
+#[inline(never)]
+fn viewed_at(btf_type: &TypeRef<'_>, index: usize) -> Option<Enumerator>
+    ensures { option_map enumerator_variant result
+        ≡ slice_get (type_enumerators (record_in btf_type.now)) index }
+{
+    if index >= count(btf_type) {
+        return None;
+    }
+    match btf_type.kind() {
+        BtfKind::Enum => narrow_at(btf_type, index as u16),
+        BtfKind::Enum64 => wide_at(btf_type, index as u16),
+        _ => None,
     }
 }
 
@@ -46,10 +97,7 @@ fn narrow_at(btf_type: &TypeRef<'_>, index: u16) -> Option<Enumerator>
         ≡ slice_get (model.narrow_enumerators (record_in btf_type.now).tail) index }
 {
     match btf_type.item::<BtfEnum>(index) {
-        Some(variant) => Some(Enumerator {
-            name_offset: variant.name_offset,
-            value: sign_extended_32(variant.value),
-        }),
+        Some(variant) => Some(narrow(&variant)),
         None => None,
     }
 }
@@ -60,10 +108,7 @@ fn wide_at(btf_type: &TypeRef<'_>, index: u16) -> Option<Enumerator>
         ≡ slice_get (model.wide_enumerators (record_in btf_type.now).tail) index }
 {
     match btf_type.item::<BtfEnum64>(index) {
-        Some(variant) => Some(Enumerator {
-            name_offset: variant.name_offset,
-            value: u64::from(variant.value_high) * 0x1_0000_0000 + u64::from(variant.value_low),
-        }),
+        Some(variant) => Some(wide(&variant)),
         None => None,
     }
 }

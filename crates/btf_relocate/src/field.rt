@@ -6,7 +6,7 @@ ghost use Rattle.btf_relocate_model.specs.Field as model;
 ghost use Rattle.btf_relocate.specs.Members.{member_of, member_bits};
 ghost use Rattle.btf_relocate.specs.Placed.{resolved_placed};
 
-use crate::kinds::{array_of, member_at, member_count};
+use crate::kinds::{Members, array_of};
 use crate::lookup::{resolve_id, resolve_to_type, type_at};
 use crate::size::size_of;
 use btf_plain::{BtfArray, BtfMember};
@@ -98,10 +98,11 @@ pub fn member(
 {
     let btf_type = resolve_to_type(table, field.type_id)?;
     let index = index as usize;
-    let Some(member) = member_at(&btf_type, index) else {
+    let members = Members::of(&btf_type);
+    let Some(member) = members.get(index) else {
         return Ok(None);
     };
-    let is_last = index + 1 == member_count(&btf_type);
+    let is_last = index + 1 == members.len();
     let found = member_field(&btf_type, &member, field.bit, is_last)?;
     Ok(Some((found, member.name_offset)))
 }

@@ -9,7 +9,7 @@ ghost use Rattle.btf_relocate.specs.Resolving.{subject_view, question_view, answ
 
 use crate::access::Access;
 use crate::enumerator::{enumerator_at, find_enumerator};
-use crate::kinds::word_at;
+use crate::kinds::int_word;
 use crate::lookup::{name_at, type_at};
 use crate::matching::matching_field;
 use crate::path::{LOCAL_POINTER_SIZE, Path};
@@ -402,7 +402,7 @@ fn may_resize(local: &TableRef<'_>, target: &TableRef<'_>, expected: &Value, val
     match (one.kind(), other.kind()) {
         (BtfKind::Ptr, BtfKind::Ptr) => true,
         (BtfKind::Int, BtfKind::Int) => {
-            word_at(&one, 0) / 0x100_0000 % 16 != 1 && word_at(&other, 0) / 0x100_0000 % 16 != 1
+            int_word(&one) / 0x100_0000 % 16 != 1 && int_word(&other) / 0x100_0000 % 16 != 1
         }
         _ => false,
     }

@@ -8,7 +8,7 @@ ghost use Rattle.btf_relocate.specs.Gives.{Gives, GivesBy};
 ghost use Rattle.btf_relocate.specs.Searching.{within, from_id, found_of, levels_of, Remembers};
 
 use crate::field::{bits_of, member_field, move_bit};
-use crate::kinds::{member_at, member_count};
+use crate::kinds::Members;
 use crate::lookup::{name_or_none, resolve_id, type_at};
 use btf_relocate_model::{Field, RelocationError};
 use btf_view::{TableRef, TypeRef};
@@ -87,7 +87,8 @@ fn search_members(
     ensures small { IfOk result (λ f. levels_of f ≤ depth) }
     ensures remembers { OnOk result (Remembers table.now name.now searched.new) }
 {
-    let count = member_count(btf_type);
+    let members = Members::of(btf_type);
+    let count = members.len();
     if count == 0 {
         return Ok(Found::Nothing(0));
     }
@@ -96,7 +97,7 @@ fn search_members(
     }
     let mut levels: u32 = 0;
     for index in 0..count {
-        let Some(member) = member_at(btf_type, index) else {
+        let Some(member) = members.get(index) else {
             return Ok(Found::Nothing(levels));
         };
         let here = name_or_none(table, member.name_offset);

@@ -91,7 +91,6 @@ fn parsed_extent(btf_type: &BtfType, pointer_size: u32) -> Extent
 }
 
 /// The same, by the words of the type. It takes a copy of the type, so that one that was parsed stays in registers.
-#[inline(never)]
 fn viewed_extent(btf_type: TypeRef<'_>, pointer_size: u32) -> Extent
     ensures { extent_of result ≡ model.extent_with pointer_size
         (kind_of (record_in btf_type.entry).info) (record_in btf_type.entry) }

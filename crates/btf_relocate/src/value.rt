@@ -5,7 +5,7 @@ ghost use Rattle.btf_model.specs.Record.{kind_of};
 ghost use Rattle.btf_view.specs.TypeRef.{record_in};
 ghost use Rattle.btf_relocate_model.specs.Value as model;
 
-use crate::kinds::word_at;
+use crate::kinds::int_word;
 use crate::lookup::{resolve_id, type_at};
 use crate::size::size_of;
 use btf_model::Endianness;
@@ -184,7 +184,7 @@ pub fn is_signed(btf_type: &TypeRef<'_>) -> bool
         (record_in btf_type.now) }
 {
     match btf_type.kind() {
-        BtfKind::Int => word_at(btf_type, 0) / 0x100_0000 % 16 % 2 == 1,
+        BtfKind::Int => int_word(btf_type) / 0x100_0000 % 16 % 2 == 1,
         BtfKind::Enum => btf_type.info() / 0x8000_0000 == 1,
         BtfKind::Enum64 => btf_type.info() / 0x8000_0000 == 1,
         _ => false,

@@ -139,20 +139,3 @@ kept_parts k order raw bytes r is tail =
     let w : Record = record { name = raw.name; info = raw.info; third = raw.third; tail = words_at order (tail_words k (vlen raw.info)) bytes } in
     let same : r ≡ kept k w = is ∙ ap (λ (ws : List ℕ). kept k (record { name = raw.name; info = raw.info; third = raw.third; tail = ws })) tail in
     subst (λ (x : Record). x ≡ record { name = x.name; info = x.info; third = x.third; tail = kept_words k (words_at order (tail_words k (vlen x.info)) bytes) }) (sym same) (own_parts k order raw.name raw.info raw.third bytes)
-
--- an item at a place of a list, from its words and a zero
-stored_words : {X : Type 0} (w : ℕ) (f : X → List ℕ) → ((x : X) → length (f x) ≡ w) → (w ≡ 2) ⊎ (w ≡ 3) → (xs : List X) (i : ℕ) (x : X) → slice_get xs i ≡ Some x → (ws : List ℕ) → f x ≡ ws → item_at w (flat_map f xs) i ≡ Some (take w (padded ws))
-stored_words w f each width xs i x is [] words = elim width [ inl two ↦ absurd (omega (arith, each x, ap length words, two)) | inr three ↦ absurd (omega (arith, each x, ap length words, three)) ]
-stored_words w f each width xs i x is (a ∷ []) words = elim width [ inl two ↦ absurd (omega (arith, each x, ap length words, two)) | inr three ↦ absurd (omega (arith, each x, ap length words, three)) ]
-stored_words w f each width xs i x is (a ∷ b ∷ []) words =
-    let two : w ≡ 2 = omega (arith, each x, ap length words) in
-    let at = λ (j : ℕ) (lt : j < w). word_of_item w f each xs i j x is lt ∙ ap (λ (v : List ℕ). slice_get v j) words in
-    item_of_two w (flat_map f xs) i a b 0 two (ap (slice_get (flat_map f xs)) (let e : w * i ≡ w * i + 0 = omega arith in e) ∙ at 0 (omega (arith, two))) (at 1 (omega (arith, two)))
-stored_words w f each width xs i x is (a ∷ b ∷ c ∷ []) words =
-    let three : w ≡ 3 = omega (arith, each x, ap length words) in
-    let at = λ (j : ℕ) (lt : j < w). word_of_item w f each xs i j x is lt ∙ ap (λ (v : List ℕ). slice_get v j) words in
-    item_of_three w (flat_map f xs) i a b c three (ap (slice_get (flat_map f xs)) (let e : w * i ≡ w * i + 0 = omega arith in e) ∙ at 0 (omega (arith, three))) (at 1 (omega (arith, three))) (at 2 (omega (arith, three)))
-stored_words w f each width xs i x is (a ∷ b ∷ c ∷ d ∷ ws) words = elim width [ inl two ↦ absurd (omega (arith, each x, ap length words, two)) | inr three ↦ absurd (omega (arith, each x, ap length words, three)) ]
-
-pub stored_item : {X : Type 0} (w : ℕ) (f : X → List ℕ) → ((x : X) → length (f x) ≡ w) → (w ≡ 2) ⊎ (w ≡ 3) → (xs : List X) (i : ℕ) (x : X) → slice_get xs i ≡ Some x → item_at w (flat_map f xs) i ≡ Some (take w (padded (f x)))
-stored_item w f each width xs i x is = stored_words w f each width xs i x is (f x) refl

@@ -34,8 +34,8 @@ impl<'a> ViewedTable<'a> {
     ghost use Rattle.btf_view.specs.TypeRef.{record_in};
     ghost use Rattle.btf_view.specs.View.{Shows};
 
-    /// The type of an id. It is not inlined, so that a parsed table, whose types are only borrowed, has a short way.
-    #[inline(never)]
+    /// The type of an id.
+    #[inline(always)]
     fn type_at(&self, type_id: u32) -> Option<TypeRef<'a>>
         ensures { (records : List Record) → Shows self.now.view records
             → option_map record_in result ≡ slice_get records type_id }
@@ -46,8 +46,8 @@ impl<'a> ViewedTable<'a> {
         }
     }
 
-    /// The id of the type that an id resolves to, in a call of its own for the same reason.
-    #[inline(never)]
+    /// The id of the type that an id resolves to.
+    #[inline(always)]
     fn resolve(&self, type_id: u32) -> Result<u32, BtfError>
         ensures { (records : List Record) → Shows self.now.view records
             → Meets (λ id. id) result (Resolves records type_id) }
@@ -69,9 +69,12 @@ enum Source<'a> {
 #[derive(Debug, Drop)]
 pub struct TableRef<'a> {
     source: Source<'a>,
+    // The string section, so that a name is read without a look at what holds the table.
+    strings: &'a [u8],
 }
 
 impl<'a> Model for TableRef<'a> {
+    ghost use Rattle.std.specs.Prelude.{◌≡◌};
     ghost use Rattle.btf_model.specs.Table.{Table};
     ghost use Rattle.btf_view.specs.TableRef.{IsShown, table_in};
 
@@ -79,7 +82,7 @@ impl<'a> Model for TableRef<'a> {
 
     ghost view = { λ t. table_in t.source };
 
-    ghost invariant = { λ t. IsShown t.source };
+    ghost invariant = { λ t. IsShown t.source × (t.strings.now ≡ (table_in t.source).strings) };
 }
 
 impl<'a> TableRef<'a> {
@@ -89,6 +92,7 @@ impl<'a> TableRef<'a> {
     {
         TableRef {
             source: Source::Parsed(table),
+            strings: string_section(table),
         }
     }
 
@@ -103,18 +107,20 @@ impl<'a> TableRef<'a> {
         ensures { IsTable endianness «data».now result }
     {
         let (types, strings) = (sections.types_at, sections.strings_at);
+        let strings = &data[strings..strings + sections.strings_len];
         TableRef {
             source: Source::Viewed(ViewedTable {
                 view: View {
                     endianness,
                     types: &data[types..types + sections.types_len],
-                    strings: &data[strings..strings + sections.strings_len],
+                    strings,
                     places: &places[..sections.count],
                 },
                 magic: sections.magic,
                 version: sections.version,
                 flags: sections.flags,
             }),
+            strings,
         }
     }
 
@@ -191,10 +197,6 @@ impl<'a> TableRef<'a> {
     pub fn name(&self, offset: u32) -> Option<&'a [u8]>
         ensures { option_map (λ b. b.now) result ≡ bytes_at self.now.strings offset }
     {
-        let strings = match &self.source {
-            Source::Parsed(table) => string_section(table),
-            Source::Viewed(table) => table.view.strings,
-        };
-        bytes_at(strings, offset, 0)
+        bytes_at(self.strings, offset, 0)
     }
 }

@@ -90,20 +90,7 @@ impl<'a> TypeRef<'a> {
 
     /// The item at an index, in a record whose words after the third are items of this type. The index is that of an
     /// item in a record, so it has 16 bits.
-    #[inline(always)]
     pub fn item<T: Item>(&self, index: u16) -> Option<T>
-        ensures { option_map T.item_words result ≡ item_at T.WIDTH (record_in self.now).tail index }
-    {
-        if let TypeRef::Parsed(btf_type) = self
-            && let Some(item) = stored_item(btf_type, index as usize)
-        {
-            return Some(item);
-        }
-        self.item_by_words(index)
-    }
-
-    /// The same, word by word.
-    fn item_by_words<T: Item>(&self, index: u16) -> Option<T>
         ensures { option_map T.item_words result ≡ item_at T.WIDTH (record_in self.now).tail index }
     {
         let first = T::WIDTH * index as usize;
@@ -174,39 +161,6 @@ fn word_of(btf_type: &BtfType, index: usize) -> Option<u32>
         BtfType::DeclTag(t) => [t.component_index().cast_unsigned()].get(index).copied(),
         BtfType::Enum64(t) => word_in(t.variants(), index),
         _ => None,
-    }
-}
-
-/// The item at an index of the list of a type, without a look at its words one by one; None if the type has none there
-/// or a list of items of another width.
-#[inline(always)]
-fn stored_item<T: Item>(btf_type: &BtfType, index: usize) -> Option<T>
-    ensures { IfSome result (λ item. Some (T.item_words item)
-        ≡ item_at T.WIDTH (record_of btf_type.now).tail index) }
-{
-    match btf_type {
-        BtfType::Struct(t) => item_in(t.members(), index),
-        BtfType::Union(t) => item_in(t.members(), index),
-        BtfType::Enum(t) => item_in(t.variants(), index),
-        BtfType::FuncProto(t) => item_in(t.params(), index),
-        BtfType::DataSec(t) => item_in(t.entries(), index),
-        BtfType::Enum64(t) => item_in(t.variants(), index),
-        _ => None,
-    }
-}
-
-/// The item at an index of items, as an item of another type of the same width; None if there is none.
-#[inline(always)]
-fn item_in<S: Item, T: Item>(items: &[S], index: usize) -> Option<T>
-    ensures { IfSome result (λ item. Some (T.item_words item)
-        ≡ item_at T.WIDTH (flat_map S.item_words items.now) index) }
-{
-    if S::WIDTH != T::WIDTH {
-        return None;
-    }
-    match items.get(index) {
-        Some(item) => Some(T::from_words(item.words())),
-        None => None,
     }
 }
 

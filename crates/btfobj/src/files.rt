@@ -23,8 +23,7 @@ fn read_whole<R: Read>(alloc: Global, reader: &mut R) -> io::Result<Vec<u8>> {
     let mut bytes = Vec::new(alloc);
     (&mut *reader).take(4).read_to_end(&mut bytes)?;
     if is_known(&bytes) {
-        // `read_to_end` first writes a zero to each place, which takes longer than to copy the bytes.
-        io::copy(reader, &mut bytes)?;
+        reader.read_to_end(&mut bytes)?;
     }
     Ok(bytes)
 }

@@ -9,7 +9,7 @@ ghost use Rattle.btf_relocate.specs.Gives.{GivesBy};
 ghost use Rattle.btf_relocate.specs.Steps.{comparison, enumeration_size, step_view, by_kinds};
 
 use super::names::{enumerators_match, names_match};
-use crate::kinds::{int_offset, member_count, parameter_count, word_at};
+use crate::kinds::{Members, int_offset, parameter_count, word_at};
 use crate::lookup::type_at;
 use crate::target::comparison_number;
 use crate::value::is_signed;
@@ -31,7 +31,7 @@ pub enum Step<'t> {
     /// The comparison of each parameter with the one at its place, and then of the types returned.
     EachParameter(TypeRef<'t>, TypeRef<'t>, Pair),
     /// For each local member a member of the target of its name whose type matches.
-    EachMember(TypeRef<'t>, TypeRef<'t>),
+    EachMember(Members<'t>, Members<'t>),
 }
 
 /// What the rule finds at a pair of types that are no modifiers.
@@ -155,7 +155,7 @@ fn few_members(step: Step<'_>) -> Result<Step<'_>, RelocationError>
     ensures { GivesBy step_view (model.few_members (step_view step.entry)) result }
 {
     if let Step::EachMember(one, other) = &step
-        && member_count(one).saturating_mul(member_count(other)) > MEMBER_PAIR_LIMIT
+        && one.len().saturating_mul(other.len()) > MEMBER_PAIR_LIMIT
     {
         return Err(RelocationError::TooManyMembers);
     }
@@ -218,10 +218,11 @@ fn step_of_declared<'t>(is_pointee: bool, one: &TypeRef<'t>, other: &TypeRef<'t>
 fn members_of_both<'t>(one: &TypeRef<'t>, other: &TypeRef<'t>) -> Step<'t>
     ensures { step_view result ≡ model.members_step (record_in one.now) (record_in other.now) }
 {
-    if member_count(other) < member_count(one) {
+    let (members, others) = (Members::of(one), Members::of(other));
+    if others.len() < members.len() {
         return Step::Ends(false);
     }
-    Step::EachMember(*one, *other)
+    Step::EachMember(members, others)
 }
 
 /// Whether the kind flag of a type is set.

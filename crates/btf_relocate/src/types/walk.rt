@@ -1,17 +1,16 @@
 //! What comes next of a comparison.
 
-ghost use Rattle.std.specs.Prelude.{◌≡◌, ◌<◌, ◌≤◌, length, IfOk, IfSome};
+ghost use Rattle.std.specs.Prelude.{◌≡◌, ◌<◌, ◌≤◌, drop, length, IfOk, IfSome};
 ghost use Rattle.btf_relocate_model.specs.Comparison as model;
-ghost use Rattle.btf_relocate_model.specs.Field.{members_of};
 ghost use Rattle.btf_view.specs.TypeRef.{record_in};
 ghost use Rattle.btf_relocate.specs.Comparing.{LeavesFewer, LeavesFewerPlaces};
-ghost use Rattle.btf_relocate.specs.Members.{member_of, parameters_of};
-ghost use Rattle.btf_relocate.specs.Steps.{Continues, NamedMemberOf, NextMemberOf, comparison, ResumesParameters};
+ghost use Rattle.btf_relocate.specs.Members.{member_of, members_in, parameters_of};
+ghost use Rattle.btf_relocate.specs.Steps.{Continues, NamedMember, NextMember, comparison, ResumesParameters};
 
 use super::Frame;
 use super::names::names_match;
 use super::steps::{Step, step_at};
-use crate::kinds::{member_at, member_count, parameter_at};
+use crate::kinds::{Members, parameter_at};
 use crate::lookup::resolve_id;
 use btf_plain::BtfMember;
 use btf_relocate_model::{Pair, RelocationError, Rule};
@@ -72,7 +71,9 @@ pub fn next_step(
         Step::EachParameter(one, other, returned) => {
             Ok(next_parameter(frame, answer, &one, &other, &returned))
         }
-        Step::EachMember(one, other) => next_member(local, target, frame, answer, &one, &other),
+        Step::EachMember(members, others) => {
+            next_member(local, target, frame, answer, &members, &others)
+        }
     }
 }
 
@@ -112,21 +113,21 @@ fn next_member(
     target: &TableRef<'_>,
     frame: &Frame,
     answer: Option<bool>,
-    one: &TypeRef<'_>,
-    other: &TypeRef<'_>,
+    members: &Members<'_>,
+    others: &Members<'_>,
 ) -> Result<Next, RelocationError>
-    ensures next { NextMemberOf local.now target.now (record_in one.now)
-        (record_in other.now) frame.now.index frame.now.other answer result }
+    ensures next { NextMember local.now target.now (members_in members.now)
+        (members_in others.now) frame.now.index frame.now.other answer result }
     ensures fewer { IfOk result (LeavesFewerPlaces frame.now.index frame.now.other) }
 {
     let (index, from) = match answer {
         Some(true) => (frame.index.saturating_add(1), 0),
         _ => (frame.index, frame.other),
     };
-    let Some(member) = member_at(one, index) else {
+    let Some(member) = members.get(index) else {
         return Ok(Next::Ends(true));
     };
-    match match_member(local, target, &member, other, from)? {
+    match match_member(local, target, &member, others, from)? {
         Some((found, after)) => {
             let pair = Pair {
                 local: member.btf_type,
@@ -145,16 +146,16 @@ fn match_member(
     local: &TableRef<'_>,
     target: &TableRef<'_>,
     member: &BtfMember,
-    other: &TypeRef<'_>,
+    others: &Members<'_>,
     from: usize,
 ) -> Result<Option<(u32, usize)>, RelocationError>
-    ensures found { NamedMemberOf local.now target.now (member_of member.now)
-        (record_in other.now) from result }
+    ensures found { NamedMember local.now target.now (member_of member.now)
+        (members_in others.now) (drop from (members_in others.now)) result }
     ensures later { IfOk result (λ found. IfSome found (λ p. (from < p.1)
-        × (p.1 ≤ length (members_of (record_in other.now))))) }
+        × (p.1 ≤ length (members_in others.now)))) }
 {
-    for index in from..member_count(other) {
-        let Some(found) = member_at(other, index) else {
+    for index in from..others.len() {
+        let Some(found) = others.get(index) else {
             return Ok(None);
         };
         if names_match(local, target, member.name_offset, found.name_offset)? {

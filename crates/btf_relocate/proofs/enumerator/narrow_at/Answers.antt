@@ -1,13 +1,14 @@
-use Rattle.std.proofs.Common.{◌∙◌, ℕ, Some, sym, ap}
+use Rattle.std.proofs.Common.{◌∙◌, Some, sym, ap}
 use Rattle.std.specs.Option.{option_map}
+use Rattle.btf_model.specs.Table.{Variant}
 use Rattle.btf_view.specs.TypeRef.{record_in}
-use Rattle.btf_relocate.proofs.Enumerators.{narrow}
+use Rattle.btf_relocate.specs.Enumerators.{narrow}
 use Rattle.btf_relocate.proofs.Items.{narrow_item}
 use Rattle.btf_relocate.proofs.enumerator.narrow_at.Goals as goal
 
 pub returns-in-Some : goal.returns-in-Some
 returns-in-Some c =
-    ap (λ (n : ℕ). Some (record { name = c.in-Some.variant.name_offset; value = n })) c.sign_extended_32.ensures
+    ap (λ (v : Variant). Some v) c.narrow.ensures
     ∙ sym (ap (option_map narrow) c.in-Some.is) ∙ narrow_item (record_in c.args.btf_type.now).tail c.args.index c.item.result c.item.ensures
 
 pub returns-in-None : goal.returns-in-None

@@ -1,13 +1,14 @@
-use Rattle.std.proofs.Common.{◌∙◌, ◌+◌, ◌*◌, ◌^◌, Some, sym, ap}
+use Rattle.std.proofs.Common.{◌∙◌, Some, sym, ap}
 use Rattle.std.specs.Option.{option_map}
+use Rattle.btf_model.specs.Table.{Variant}
 use Rattle.btf_view.specs.TypeRef.{record_in}
-use Rattle.btf_relocate.proofs.Enumerators.{wide}
+use Rattle.btf_relocate.specs.Enumerators.{wide}
 use Rattle.btf_relocate.proofs.Items.{wide_item}
 use Rattle.btf_relocate.proofs.enumerator.wide_at.Goals as goal
 
 pub returns-in-Some : goal.returns-in-Some
 returns-in-Some c =
-    (λ i. Some (record { name = c.in-Some.variant.name_offset; value = c.from.ensures i * 2 ^ 32 + c.from-in-Some.ensures i }))
+    ap (λ (v : Variant). Some v) c.wide.ensures
     ∙ sym (ap (option_map wide) c.in-Some.is) ∙ wide_item (record_in c.args.btf_type.now).tail c.args.index c.item.result c.item.ensures
 
 pub returns-in-None : goal.returns-in-None

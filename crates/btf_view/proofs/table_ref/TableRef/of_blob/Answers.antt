@@ -20,7 +20,7 @@ invariant_of-result c =
     let types = slice s.types_at s.types_len bytes in
     let indexed = c.requires.places_are in
     let here : AreIndexed order types places (records_there order types places) = subst (AreIndexed order types places) (all_there order types places c.requires.table.records indexed.are) indexed in
-    subst (λ (ts : List ℕ). AreIndexed order ts places (records_there order ts places)) (part bytes s.types_at s.types_len) here
+    (subst (λ (ts : List ℕ). AreIndexed order ts places (records_there order ts places)) (part bytes s.types_at s.types_len) here, refl)
 
 pub returns : goal.returns
 returns c =

@@ -2,7 +2,7 @@ use Rattle.std.proofs.Common.{◌≡◌, ◌∙◌, ◌+◌, ◌*◌, ℕ, List,
 use Rattle.std.specs.Prelude.{slice_get}
 use Rattle.btf_view.specs.TypeRef.{record_in}
 use Rattle.btf_view.proofs.Words.{item_of_two, item_of_three, no_item}
-use Rattle.btf_view.proofs.type_ref.TypeRef.item_by_words.Goals as goal
+use Rattle.btf_view.proofs.type_ref.TypeRef.item.Goals as goal
 
 pub returns-then-WIDTH-eq2 : goal.returns-then-WIDTH-eq2
 returns-then-WIDTH-eq2 g c =

@@ -5,7 +5,7 @@ use Rattle.btf_plain.specs.declared.items.BtfParam.{BtfParam}
 use Rattle.btf_view.specs.TypeRef.{record_in}
 use Rattle.btf_relocate.specs.Members.{parameters_of}
 use Rattle.btf_relocate.proofs.Items.{parameter_item}
-use Rattle.btf_relocate.proofs.kinds.parameter_at.Goals as goal
+use Rattle.btf_relocate.proofs.kinds.viewed_parameter.Goals as goal
 
 pub returns-then-index-parameter_count-clause-parameter : goal.returns-then-index-parameter_count-clause-parameter
 returns-then-index-parameter_count-clause-parameter c =

@@ -6,7 +6,7 @@ use Rattle.btf_model.specs.Table.{Variant}
 use Rattle.btf_view.specs.TypeRef.{record_in}
 use Rattle.btf_relocate.specs.Enumerators.{type_enumerators}
 use Rattle.btf_relocate.proofs.Items.{narrow_has, wide_has, no_enumerators}
-use Rattle.btf_relocate.proofs.enumerator.Enumerator.at.Goals as goal
+use Rattle.btf_relocate.proofs.enumerator.viewed_at.Goals as goal
 
 pub returns-then-index-count : goal.returns-then-index-count
 returns-then-index-count c =
