@@ -1,9 +1,9 @@
 -- The search for a name in the places of a view.
-use Rattle.std.proofs.Common.{◌≡◌, ◌∙◌, ◌+◌, ◌<◌, ℕ, true, false, List, length, get_or, Option, Some, Ok, Err, [], sym, ap, subst, inl, inr, ◌++◌, ◌∷◌, take, refl, ◌≢◌}
+use Rattle.std.proofs.Common.{◌≡◌, ◌∙◌, ◌+◌, ◌<◌, ◌≤◌, ◌⊎◌, ℕ, true, false, List, length, get_or, Option, Some, Ok, Err, [], sym, ap, subst, inl, inr, ◌++◌, ◌∷◌, take, refl, ◌≢◌, arith}
 use Rattle.std.specs.Prelude.{IfSome, MatchOption, slice_get}
 use Rattle.std.specs.Str.{IsUtf8}
 use Rattle.std.proofs.lemmas.Bool.Decides.{eqb_tells}
-use Rattle.std.proofs.lemmas.Option.{slice_get-get_or}
+use Rattle.std.proofs.lemmas.Option.{same_Some, slice_get-get_or}
 use Rattle.btf_model.specs.declared.endianness.Endianness.{Endianness}
 use Rattle.btf_model.specs.Record as model
 use Rattle.btf_model.specs.Record.{Kind, Record, kind_number, kind_of}
@@ -17,6 +17,7 @@ use Rattle.btf_table.proofs.Names.{begins_otherwise, passed_one}
 use Rattle.btf_view.specs.Places.{AreIndexed, IsRecordAt}
 use Rattle.btf_view.specs.Record.{IsReadAs}
 use Rattle.btf_view.specs.Finding.{LooksUp}
+use Rattle.btf_view.specs.TableRef.{AreOfOtherKinds, IsNextOfKinds}
 use Rattle.btf_view.specs.declared.finding.Lookup.TheVariants.{Found, Unreadable}
 use Rattle.btf_view.proofs.KindNames.{kept_kind, kept_name, one_number}
 use Rattle.btf_view.proofs.Places.{placed}
@@ -77,4 +78,25 @@ passed_other strings readable records id number first end raw k name s is nonzer
           other_name strings records id raw raw.name k name s (name_retained raw s.seen s.read (λ zero. nonzero (sym same.1 ∙ zero)))
           (begins_otherwise strings name readable raw.name first byte.0 end ends until utf8 firsts byte.1 byte.2) below
       | inr other ↦ other_kind strings records id number (kind_number raw.info) raw k name s is refl other.1 below
+    ]
+
+-- the number of a record's kind is that of the head
+number_seen : (records : List Record) (id : ℕ) (raw : Head) (s : Seen records id raw) → kind_number s.seen.info ≡ kind_number raw.info
+number_seen records id raw s = one_number (kind_number s.seen.info) (kind_number raw.info) s.read.kind (kind_seen records id raw s ∙ s.read.has) s.read.has
+
+-- the number is one of two that are sought
+pub next_seen : (records : List Record) (first id n kind other : ℕ) (raw : Head) → Seen records id raw → n ≡ kind_number raw.info → (n ≡ kind) ⊎ (n ≡ other) → first ≤ id → AreOfOtherKinds records first id kind other → IsNextOfKinds records first kind other (Some id)
+next_seen records first id n kind other raw s is one from below =
+    let same : kind_number s.seen.info ≡ n = number_seen records id raw s ∙ sym is in
+    (s.seen, s.there, from, elim one [ | inl a ↦ inl (same ∙ a) | inr b ↦ inr (same ∙ b) ], below)
+
+-- or none of them
+pub others_seen : (records : List Record) (first id n kind other : ℕ) (raw : Head) → Seen records id raw → n ≡ kind_number raw.info → n ≢ kind → n ≢ other → AreOfOtherKinds records first id kind other → AreOfOtherKinds records first (id + 1) kind other
+others_seen records first id n kind other raw s is a b below low r from lt there =
+    elim (eqb_tells low id) [
+      | inl same ↦
+          let one : r ≡ s.seen = same_Some r s.seen (sym there ∙ ap (slice_get records) same.1 ∙ s.there) in
+          let number : n ≡ kind_number r.info = is ∙ sym (number_seen records id raw s) ∙ ap (λ (x : Record). kind_number x.info) (sym one) in
+          (λ has. a (number ∙ has), λ has. b (number ∙ has))
+      | inr differ ↦ below low r from (omega (arith, lt, differ.1)) there
     ]

@@ -7,6 +7,7 @@ ghost use Rattle.btf_plain.specs.Kind as kinds;
 ghost use Rattle.btf_view.specs.Finding.{LooksUp};
 ghost use Rattle.btf_view.specs.Places.{ForRecords};
 ghost use Rattle.btf_view.specs.Record.{IsReadAs};
+ghost use Rattle.btf_view.specs.TableRef.{IsNextOfKinds};
 
 use crate::record::raw_head_at;
 use crate::text::has_name;
@@ -110,4 +111,27 @@ pub(crate) fn find_in(
         }
     }
     Lookup::Missing
+}
+
+/// The least id, from this one on, of a type whose kind has one of two numbers.
+#[inline(always)]
+pub(crate) fn next_of_kinds_in(
+    types: &[u8],
+    places: &[u32],
+    endianness: Endianness,
+    first: u32,
+    kind: u32,
+    other: u32,
+) -> Option<u32>
+    ensures { ForRecords endianness types.now places.now
+        (λ records. IsNextOfKinds records first kind other result) }
+{
+    let ids = places.len().min(u32::MAX as usize);
+    for id in first as usize..ids {
+        let number = raw_head_at(types, places[id], endianness).kind();
+        if number == kind || number == other {
+            return Some(id as u32);
+        }
+    }
+    None
 }

@@ -7,8 +7,10 @@ ghost use Rattle.btf_model.specs.Text.{bytes_at};
 ghost use Rattle.btf_model.specs.Walk.{Resolves};
 ghost use Rattle.btf_plain.specs.Error.{Meets};
 ghost use Rattle.btf_view.specs.Index.{IsIndexed};
+ghost use Rattle.btf_view.specs.TableRef.{IsNextOfKinds};
 ghost use Rattle.btf_view.specs.TypeRef.{first_three, record_in};
 
+use crate::finding::next_of_kinds_in;
 use crate::indexing::Sections;
 use crate::type_ref::{TypeRef, third_of};
 use crate::view::View;
@@ -180,6 +182,28 @@ impl<'a> TableRef<'a> {
         }
     }
 
+    /// The least id, from this one on, of a type whose kind has one of two numbers; None if there is none. Most types
+    /// have other kinds, and the loop that skips them has no call.
+    #[inline(never)]
+    pub fn next_of_kinds(&self, first: u32, kind: u32, other: u32) -> Option<u32>
+        ensures { IsNextOfKinds self.now.records first kind other result }
+    {
+        match &self.source {
+            Source::Parsed(table) => next_in_table(table, first, kind, other),
+            Source::Viewed(table) => {
+                let view = table.view;
+                next_of_kinds_in(
+                    view.types,
+                    view.places,
+                    view.endianness,
+                    first,
+                    kind,
+                    other,
+                )
+            }
+        }
+    }
+
     /// The id of the type that an id resolves to, as `Btf::resolve_type` does.
     #[inline(always)]
     pub fn resolve(&self, type_id: u32) -> Result<u32, BtfError>
@@ -199,4 +223,21 @@ impl<'a> TableRef<'a> {
     {
         bytes_at(self.strings, offset, 0)
     }
+}
+
+/// The least id, from this one on, of a type whose kind has one of two numbers, in a table that was parsed.
+#[inline(always)]
+fn next_in_table(table: &Btf, first: u32, kind: u32, other: u32) -> Option<u32>
+    ensures { IsNextOfKinds table.now.records first kind other result }
+{
+    for id in first..type_count(table) {
+        let Ok(btf_type) = table.type_by_id(id) else {
+            return None;
+        };
+        let number = btf_type.info() >> 24 & 0x1f;
+        if number == kind || number == other {
+            return Some(id);
+        }
+    }
+    None
 }
