@@ -1,6 +1,8 @@
 -- Essential names: where the last flavor begins.
-use Rattle.std.proofs.Common.{take_all, length-drop, ◌≡◌, ℕ, zero, suc, ◌+◌, ◌-◌, ◌<◌, ◌≤◌, List, [], ◌∷◌, length, drop, take, Bool, true, false, refl, sym, ap, ◌∙◌, arith}
+use Rattle.std.proofs.Common.{take_all, length-drop, ◌≡◌, ℕ, zero, suc, ◌+◌, ◌-◌, ◌<◌, ◌≤◌, List, [], ◌∷◌, ◌++◌, length, drop, take, Bool, true, false, true≢false, refl, sym, ap, ◌∙◌, arith}
 use Rattle.std.specs.Prelude.{◌&&◌, not, if◌then◌else◌}
+use Rattle.std.specs.Str.{bytes_eq}
+use Rattle.std.proofs.lemmas.Slice.Eq.{bytes_eq-Decides}
 use Rattle.btf_relocate_model.specs.Name.{separates, has_flavor, essential}
 
 -- a flavor that begins at a place begins somewhere
@@ -62,3 +64,25 @@ one_less name (suc i) pos le b is past none =
 pub whole : (name : List ℕ) (n : ℕ) → n ≤ 0 → has_flavor (drop n name) ≡ false → name ≡ essential name
 whole name zero le none = sym (essential_whole name none)
 whole name (suc i) le none = absurd (omega (arith, le))
+
+-- ---- a name begins with its essential name
+
+pub left_out : (name : List ℕ) → (rest : List ℕ) × (name ≡ essential name ++ rest)
+left_out [] = ([], refl)
+left_out (x ∷ name) =
+    let more = left_out name in
+    elim (separates (x ∷ name) && not (has_flavor name)) as (λ b. (rest : List ℕ) × (x ∷ name ≡ (if b then x ∷ [] else x ∷ essential name) ++ rest)) [
+      | true ↦ (name, refl)
+      | false ↦ (more.0, ap (λ (n : List ℕ). x ∷ n) more.1)
+    ]
+
+-- so a name that begins otherwise has another essential name
+pub begins_otherwise : (name own : List ℕ) (b : Bool) → ((rest : List ℕ) → own ≡ name ++ rest → b ≡ true) → b ≡ false → bytes_eq (essential own) name ≡ false
+begins_otherwise name own b starts other =
+    let more = left_out own in
+    elim (bytes_eq (essential own) name) as (λ e. bytes_eq (essential own) name ≡ e → e ≡ false) [
+      | true ↦ λ same.
+          let one : essential own ≡ name = (bytes_eq-Decides (essential own) name).0 same in
+          absurd (true≢false (sym (starts more.0 (more.1 ∙ ap (λ (n : List ℕ). n ++ more.0) one)) ∙ other))
+      | false ↦ λ same. refl
+    ] refl

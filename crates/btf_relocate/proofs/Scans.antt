@@ -1,12 +1,16 @@
 -- The candidates of a table without an index, which are found one after another.
 use Rattle.std.proofs.Common.{◌≡◌, ℕ, suc, ◌+◌, ◌<◌, ◌≤◌, List, [], ◌∷◌, ◌++◌, length, get_or, take, drop, Bool, true, false, Some, refl, sym, ap, ◌∙◌, add-one, append_assoc, arith}
-use Rattle.std.specs.Prelude.{if◌then◌else◌, slice_get}
+use Rattle.std.specs.Prelude.{◌==◌, ◌&&◌, not, if◌then◌else◌, slice_get}
+use Rattle.std.specs.Str.{bytes_eq}
 use Rattle.std.proofs.lemmas.List.{drop_all, append-nil, take-append-le, take_all, length-append}
 use Rattle.std.proofs.lemmas.Option.{slice_get-get_or}
-use Rattle.btf_model.specs.Record.{Record, unknown}
+use Rattle.btf_model.specs.Record.{Record, kind_number, unknown}
 use Rattle.btf_model.specs.Table.{Table}
-use Rattle.btf_relocate_model.specs.Candidates.{candidate_limit, ids_from}
+use Rattle.btf_relocate_model.specs.Candidates.{candidate_limit, compared_number, ids_from, is_nameless}
+use Rattle.btf_relocate_model.specs.Name.{essential}
+use Rattle.btf_relocate_model.specs.Types.{name_or_none}
 use Rattle.btf_relocate.specs.TargetIndex.{has_key}
+use Rattle.btf_relocate.proofs.Names.{begins_otherwise}
 use Rattle.btf_relocate.proofs.Pointers.{element_at}
 
 module _ (t : Table) (name : List ℕ) (kind : ℕ) where
@@ -64,3 +68,33 @@ module _ (t : Table) (name : List ℕ) (kind : ℕ) where
       sym (take_all (candidate_limit + 1) ids (omega (arith, full)))
       ∙ sym (take-append-le (candidate_limit + 1) ids (ids_from (has_key t name kind) i (drop i t.records)) (omega (arith, full)))
       ∙ ap (take (candidate_limit + 1)) completes
+
+-- ---- a record that lacks the key
+
+last_false : (a b : Bool) → (a && b && false) ≡ false
+last_false true true = refl
+last_false true false = refl
+last_false false true = refl
+last_false false false = refl
+
+middle_false : (a b : Bool) → (a && false && b) ≡ false
+middle_false true true = refl
+middle_false true false = refl
+middle_false false true = refl
+middle_false false false = refl
+
+module _ (t : Table) (name own : List ℕ) (kind : ℕ) (r : Record) (is : own ≡ name_or_none t r.name) where
+  abbrev same_kind : Bool
+  same_kind = compared_number (kind_number r.info) == kind
+
+  -- it has no name
+  pub nameless : is_nameless own ≡ true → false ≡ has_key t name kind r
+  nameless none =
+      let all : is_nameless (name_or_none t r.name) ≡ true = ap is_nameless (sym is) ∙ none in
+      sym (ap (λ (b : Bool). same_kind && not b && bytes_eq (essential (name_or_none t r.name)) name) all ∙ middle_false same_kind (bytes_eq (essential (name_or_none t r.name)) name))
+
+  -- its name begins otherwise
+  pub named_otherwise : (b : Bool) → ((rest : List ℕ) → own ≡ name ++ rest → b ≡ true) → b ≡ false → false ≡ has_key t name kind r
+  named_otherwise b starts other =
+      let differ : bytes_eq (essential (name_or_none t r.name)) name ≡ false = ap (λ (n : List ℕ). bytes_eq (essential n) name) (sym is) ∙ begins_otherwise name own b starts other in
+      sym (ap (λ (e : Bool). same_kind && not (is_nameless (name_or_none t r.name)) && e) differ ∙ last_false same_kind (not (is_nameless (name_or_none t r.name))))

@@ -276,7 +276,8 @@ fn has_key(table: &TableRef<'_>, type_id: u32, name: &[u8], kind: u32) -> bool
         return false;
     }
     let own_name = name_or_none(table, head.name);
-    if own_name.is_empty() {
+    // Most names begin otherwise, and their flavors need not be found.
+    if own_name.is_empty() || !own_name.starts_with(name) {
         return false;
     }
     essential_name(own_name) == name
