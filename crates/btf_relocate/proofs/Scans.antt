@@ -1,14 +1,16 @@
 -- The candidates of a table without an index, which are found one after another.
-use Rattle.std.proofs.Common.{◌≡◌, ℕ, suc, ◌+◌, ◌<◌, ◌≤◌, List, [], ◌∷◌, ◌++◌, length, get_or, take, drop, Bool, true, false, Some, refl, sym, ap, ◌∙◌, add-one, append_assoc, arith}
+use Rattle.std.proofs.Common.{◌≡◌, ◌≢◌, ℕ, zero, suc, ◌+◌, ◌-◌, ◌<◌, ◌≤◌, inl, inr, subst, List, [], ◌∷◌, ◌++◌, length, get_or, take, drop, Bool, true, false, Some, refl, sym, ap, ◌∙◌, add-one, append_assoc, arith}
 use Rattle.std.specs.Prelude.{◌==◌, ◌&&◌, not, if◌then◌else◌, slice_get}
 use Rattle.std.specs.Str.{bytes_eq}
 use Rattle.std.proofs.lemmas.List.{drop_all, append-nil, take-append-le, take_all, length-append}
-use Rattle.std.proofs.lemmas.Option.{slice_get-get_or}
+use Rattle.std.proofs.lemmas.Bool.Decides.{eqb_tells}
+use Rattle.std.proofs.lemmas.Option.{slice_get-get_or, slice_get_within}
 use Rattle.btf_model.specs.Record.{Record, kind_number, unknown}
 use Rattle.btf_model.specs.Table.{Table}
 use Rattle.btf_relocate_model.specs.Candidates.{candidate_limit, compared_number, ids_from, is_nameless}
 use Rattle.btf_relocate_model.specs.Name.{essential}
 use Rattle.btf_relocate_model.specs.Types.{name_or_none}
+use Rattle.btf_view.specs.TableRef.{AreOfOtherKinds}
 use Rattle.btf_relocate.specs.TargetIndex.{has_key}
 use Rattle.btf_relocate.proofs.Names.{begins_otherwise}
 use Rattle.btf_relocate.proofs.Pointers.{element_at}
@@ -98,3 +100,47 @@ module _ (t : Table) (name own : List ℕ) (kind : ℕ) (r : Record) (is : own �
   named_otherwise b starts other =
       let differ : bytes_eq (essential (name_or_none t r.name)) name ≡ false = ap (λ (n : List ℕ). bytes_eq (essential n) name) (sym is) ∙ begins_otherwise name own b starts other in
       sym (ap (λ (e : Bool). same_kind && not (is_nameless (name_or_none t r.name)) && e) differ ∙ last_false same_kind (not (is_nameless (name_or_none t r.name))))
+
+-- ---- ids whose types have other kinds
+
+unequal : (a b : ℕ) → a ≢ b → (a == b) ≡ false
+unequal a b differ = elim (eqb_tells a b) [
+  | inl same ↦ absurd (differ same.1)
+  | inr apart ↦ apart.0
+]
+
+-- the kinds that count as one have one of two numbers
+apart : (k kind other : ℕ) → other ≡ (if kind == 6 then 19 else kind) → k ≢ kind → k ≢ other → (compared_number k == kind) ≡ false
+apart k kind other is a b = elim (eqb_tells k 19) [
+  | inl wide ↦ elim (eqb_tells kind 6) [
+      | inl six ↦ absurd (b (wide.1 ∙ sym (is ∙ ap (λ (c : Bool). if c then 19 else kind) six.0)))
+      | inr differ ↦ ap (λ (c : Bool). (if c then 6 else k) == kind) wide.0 ∙ unequal 6 kind (λ same. differ.1 (sym same))
+    ]
+  | inr narrow ↦ ap (λ (c : Bool). (if c then 6 else k) == kind) narrow.0 ∙ unequal k kind a
+]
+
+module _ (t : Table) (name : List ℕ) (kind other : ℕ) (is : other ≡ (if kind == 6 then 19 else kind)) where
+  of_other_kind : (r : Record) → kind_number r.info ≢ kind → kind_number r.info ≢ other → false ≡ has_key t name kind r
+  of_other_kind r a b = sym (ap (λ (c : Bool). c && not (is_nameless (name_or_none t r.name)) && bytes_eq (essential (name_or_none t r.name)) name) (apart (kind_number r.info) kind other is a b))
+
+  skipped : (ids : List ℕ) (i n : ℕ) → n ≤ length t.records - i → AreOfOtherKinds t.records i (i + n) kind other → Found t name kind ids i → Found t name kind ids (i + n)
+  skipped ids i zero le others found = subst (Found t name kind ids) (let same : i ≡ i + 0 = omega (arith) in same) found
+  skipped ids i (suc n) le others found =
+      let before = skipped ids i n (omega (arith, le)) (λ id r from lt there. others id r from (omega (arith, lt)) there) found in
+      let here : (r : Record) → slice_get t.records (i + n) ≡ Some r → false ≡ has_key t name kind r =
+          λ r there. let two = others (i + n) r (omega (arith)) (omega (arith)) there in of_other_kind r two.0 two.1 in
+      subst (Found t name kind ids) (let same : i + n + 1 ≡ i + suc n = omega (arith) in same)
+      (not_here t name kind ids (i + n) (omega (arith, le)) before false here refl)
+
+  -- all ids before the next one
+  pub next_found : (ids : List ℕ) (i j : ℕ) → i ≤ j → j < length t.records → AreOfOtherKinds t.records i j kind other → Found t name kind ids i → Found t name kind ids j
+  next_found ids i j le lt others found =
+      let same : i + (j - i) ≡ j = omega (arith, le) in
+      subst (Found t name kind ids) same (skipped ids i (j - i) (omega (arith, lt)) (subst (λ (end : ℕ). AreOfOtherKinds t.records i end kind other) (sym same) others) found)
+
+  -- and all ids, if there is no next one
+  pub none_next : (ids : List ℕ) (i : ℕ) → AreOfOtherKinds t.records i (length t.records) kind other → Found t name kind ids i → ids ≡ take (candidate_limit + 1) (all t name kind)
+  none_next ids i others found =
+      let n = length t.records - i in
+      all_found t name kind ids (i + n) (omega (arith))
+      (skipped ids i n (omega (arith)) (λ id r from lt there. others id r from (omega (arith, slice_get_within t.records id r there)) there) found)

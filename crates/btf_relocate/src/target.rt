@@ -1,6 +1,6 @@
 //! The table that a program is relocated against.
 
-ghost use Rattle.std.specs.Prelude.{◌≡◌, ◌+◌, ℕ, Some, IfOk, IfErr, slice_get, take};
+ghost use Rattle.std.specs.Prelude.{◌≡◌, ◌+◌, ◌==◌, ℕ, Some, IfOk, IfErr, if◌then◌else◌, slice_get, take};
 ghost use Rattle.std.specs.Option.{option_map};
 ghost use Rattle.std.specs.List.{list_any};
 ghost use Rattle.std.specs.Str.{bytes_eq};
@@ -252,8 +252,11 @@ fn search(
 {
     let essential = essential_name(name);
     let number = comparison_number(kind);
+    let other = other_number(number);
     let mut ids = Vec::new(alloc);
-    for type_id in 1..table.type_count() {
+    let mut from = 1;
+    while let Some(type_id) = table.next_of_kinds(from, number, other) {
+        from = type_id + 1;
         if has_key(table, type_id, essential, number) {
             ids.push(type_id)?;
             if ids.len() > CANDIDATE_LIMIT {
@@ -262,6 +265,16 @@ fn search(
         }
     }
     Ok(ids)
+}
+
+/// The other number of a kind that counts as this one when kinds are compared, or the same number if there is none.
+fn other_number(number: u32) -> u32
+    ensures { result ≡ (if number == 6 then 19 else number) }
+{
+    if number == BtfKind::Enum as u32 {
+        return BtfKind::Enum64 as u32;
+    }
+    number
 }
 
 /// Whether a type has this kind and a name with this essential name.

@@ -1,6 +1,6 @@
 //! The type of a kind and a name.
 
-ghost use Rattle.std.specs.Prelude.{◌≡◌, ◌≢◌, ℕ, IsTrue, Some, slice_get};
+ghost use Rattle.std.specs.Prelude.{◌≡◌, ◌≢◌, ◌<◌, ◌+◌, ◌^◌, ℕ, IfSome, IsTrue, Some, slice_get};
 ghost use Rattle.btf_model.specs.Record as model;
 ghost use Rattle.btf_model.specs.Record.{Record, kind_number};
 ghost use Rattle.btf_plain.specs.Kind as kinds;
@@ -123,8 +123,9 @@ pub(crate) fn next_of_kinds_in(
     kind: u32,
     other: u32,
 ) -> Option<u32>
-    ensures { ForRecords endianness types.now places.now
+    ensures next { ForRecords endianness types.now places.now
         (λ records. IsNextOfKinds records first kind other result) }
+    ensures small { IfSome result (λ id. id + 1 < 2 ^ 32) }
 {
     let ids = places.len().min(u32::MAX as usize);
     for id in first as usize..ids {

@@ -1,6 +1,6 @@
 //! A table that is read, whatever holds it.
 
-ghost use Rattle.std.specs.Prelude.{◌≡◌, length, slice_get};
+ghost use Rattle.std.specs.Prelude.{◌≡◌, ◌<◌, ◌+◌, ◌^◌, IfSome, length, slice_get};
 ghost use Rattle.std.specs.Option.{option_map};
 ghost use Rattle.btf_model.specs.Blob.{IsTable};
 ghost use Rattle.btf_model.specs.Text.{bytes_at};
@@ -186,7 +186,8 @@ impl<'a> TableRef<'a> {
     /// have other kinds, and the loop that skips them has no call.
     #[inline(never)]
     pub fn next_of_kinds(&self, first: u32, kind: u32, other: u32) -> Option<u32>
-        ensures { IsNextOfKinds self.now.records first kind other result }
+        ensures next { IsNextOfKinds self.now.records first kind other result }
+        ensures small { IfSome result (λ id. id + 1 < 2 ^ 32) }
     {
         match &self.source {
             Source::Parsed(table) => next_in_table(table, first, kind, other),
@@ -228,7 +229,8 @@ impl<'a> TableRef<'a> {
 /// The least id, from this one on, of a type whose kind has one of two numbers, in a table that was parsed.
 #[inline(always)]
 fn next_in_table(table: &Btf, first: u32, kind: u32, other: u32) -> Option<u32>
-    ensures { IsNextOfKinds table.now.records first kind other result }
+    ensures next { IsNextOfKinds table.now.records first kind other result }
+    ensures small { IfSome result (λ id. id + 1 < 2 ^ 32) }
 {
     for id in first..type_count(table) {
         let Ok(btf_type) = table.type_by_id(id) else {

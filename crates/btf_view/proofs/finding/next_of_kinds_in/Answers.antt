@@ -5,8 +5,8 @@ use Rattle.btf_view.proofs.Places.{as_many_places}
 use Rattle.btf_view.proofs.finding.next_of_kinds_in.Goals as goal
 use Rattle.btf_view.proofs.finding.next_of_kinds_in.Goals.{then-number-kind-via-then-number-kind, then-number-kind-via-else-number-kind+then-number-other}
 
-pub returns-then-number-kind : goal.returns-then-number-kind
-returns-then-number-kind c records h =
+pub returns-then-number-kind-clause-next : goal.returns-then-number-kind-clause-next
+returns-then-number-kind-clause-next c records h =
     let places = c.args.places.now in
     let number = c.kind-number.result in
     let low : c.loop-id.id < length places = omega (arith, c.loop-id-test.true, c.min-ids.ensures, min-le_left (length places) 4294967295) in
@@ -24,8 +24,8 @@ loop-id-preserved c records h =
     let s = seen_at c.args.endianness c.args.types.now places records c.loop-id.id c.raw_head_at.result h low c.raw_head_at.ensures in
     others_seen records c.args.first c.loop-id.id c.kind-number.result c.args.kind c.args.other c.raw_head_at.result s c.kind-number.ensures c.if-number-kind.false c.if-number-other.false (c.loop-id.invariant records h)
 
-pub returns : goal.returns
-returns c records h =
+pub returns-clause-next : goal.returns-clause-next
+returns-clause-next c records h =
     let places = c.args.places.now in
     let many = as_many_places c.args.endianness c.args.types.now places records h.are in
     let past : length records ≤ c.loop-id.id = omega (arith, c.loop-id-test.false, c.min-ids.ensures, many, h.ids, min-eq_left {n = length places} {m = 4294967295} (omega (arith, many, h.ids))) in
