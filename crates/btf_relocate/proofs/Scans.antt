@@ -113,9 +113,9 @@ unequal a b differ = elim (eqb_tells a b) [
 apart : (k kind other : ℕ) → other ≡ (if kind == 6 then 19 else kind) → k ≢ kind → k ≢ other → (compared_number k == kind) ≡ false
 apart k kind other is a b = elim (eqb_tells k 19) [
   | inl wide ↦ elim (eqb_tells kind 6) [
-      | inl six ↦ absurd (b (wide.1 ∙ sym (is ∙ ap (λ (c : Bool). if c then 19 else kind) six.0)))
-      | inr differ ↦ ap (λ (c : Bool). (if c then 6 else k) == kind) wide.0 ∙ unequal 6 kind (λ same. differ.1 (sym same))
-    ]
+    | inl six ↦ absurd (b (wide.1 ∙ sym (is ∙ ap (λ (c : Bool). if c then 19 else kind) six.0)))
+    | inr differ ↦ ap (λ (c : Bool). (if c then 6 else k) == kind) wide.0 ∙ unequal 6 kind (λ same. differ.1 (sym same))
+  ]
   | inr narrow ↦ ap (λ (c : Bool). (if c then 6 else k) == kind) narrow.0 ∙ unequal k kind a
 ]
 
@@ -128,7 +128,7 @@ module _ (t : Table) (name : List ℕ) (kind other : ℕ) (is : other ≡ (if ki
   skipped ids i (suc n) le others found =
       let before = skipped ids i n (omega (arith, le)) (λ id r from lt there. others id r from (omega (arith, lt)) there) found in
       let here : (r : Record) → slice_get t.records (i + n) ≡ Some r → false ≡ has_key t name kind r =
-          λ r there. let two = others (i + n) r (omega (arith)) (omega (arith)) there in of_other_kind r two.0 two.1 in
+      λ r there. let two = others (i + n) r (omega (arith)) (omega (arith)) there in of_other_kind r two.0 two.1 in
       subst (Found t name kind ids) (let same : i + n + 1 ≡ i + suc n = omega (arith) in same)
       (not_here t name kind ids (i + n) (omega (arith, le)) before false here refl)
 

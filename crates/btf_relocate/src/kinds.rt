@@ -238,6 +238,7 @@ pub fn int_word(btf_type: &TypeRef<'_>) -> u32
 }
 
 /// The bit at which an INT begins.
+#[inline(always)]
 pub fn int_offset(btf_type: &TypeRef<'_>) -> u32
     ensures { result ≡ int_offset (record_in btf_type.now) }
 {

@@ -186,6 +186,8 @@ fn subject_of<'t>(
 }
 
 /// What a candidate has for the subject; `None` if it does not match.
+// A call for each candidate would copy what it returns.
+#[inline(always)]
 fn matching(
     alloc: Global,
     local: &TableRef<'_>,
@@ -267,6 +269,7 @@ pub fn table_answers(
 }
 
 /// The same for candidates that are not too many.
+#[inline(always)]
 fn answers(
     alloc: Global,
     local: &TableRef<'_>,

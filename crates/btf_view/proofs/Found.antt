@@ -88,7 +88,7 @@ number_seen records id raw s = one_number (kind_number s.seen.info) (kind_number
 pub next_seen : (records : List Record) (first id n kind other : ℕ) (raw : Head) → Seen records id raw → n ≡ kind_number raw.info → (n ≡ kind) ⊎ (n ≡ other) → first ≤ id → AreOfOtherKinds records first id kind other → IsNextOfKinds records first kind other (Some id)
 next_seen records first id n kind other raw s is one from below =
     let same : kind_number s.seen.info ≡ n = number_seen records id raw s ∙ sym is in
-    (s.seen, s.there, from, elim one [ | inl a ↦ inl (same ∙ a) | inr b ↦ inr (same ∙ b) ], below)
+    (s.seen, s.there, from, elim one [ inl a ↦ inl (same ∙ a) | inr b ↦ inr (same ∙ b) ], below)
 
 -- or none of them
 pub others_seen : (records : List Record) (first id n kind other : ℕ) (raw : Head) → Seen records id raw → n ≡ kind_number raw.info → n ≢ kind → n ≢ other → AreOfOtherKinds records first id kind other → AreOfOtherKinds records first (id + 1) kind other

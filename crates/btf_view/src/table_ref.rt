@@ -193,14 +193,7 @@ impl<'a> TableRef<'a> {
             Source::Parsed(table) => next_in_table(table, first, kind, other),
             Source::Viewed(table) => {
                 let view = table.view;
-                next_of_kinds_in(
-                    view.types,
-                    view.places,
-                    view.endianness,
-                    first,
-                    kind,
-                    other,
-                )
+                next_of_kinds_in(view.types, view.places, view.endianness, first, kind, other)
             }
         }
     }

@@ -45,7 +45,10 @@ fn relocate_in_place<'a>(
     out: &mut Output<'_>,
 ) -> Result<Answer, Failure<'a>> {
     let target = read(rt, relocation.target)?;
-    let table = blame(relocation.target, TableInPlace::of_file(rt.alloc(), &target))?;
+    let table = blame(
+        relocation.target,
+        TableInPlace::of_file(rt.alloc(), &target),
+    )?;
     let kernel = Target::of_view(table.table());
     relocate_for(rt, file, bytes, relocation, &kernel, &[], out)
 }
