@@ -1,15 +1,18 @@
 -- The candidates of a table without an index, which are found one after another.
-use Rattle.std.proofs.Common.{◌≡◌, ◌≢◌, ℕ, zero, suc, ◌+◌, ◌-◌, ◌<◌, ◌≤◌, inl, inr, subst, List, [], ◌∷◌, ◌++◌, length, get_or, take, drop, Bool, true, false, Some, refl, sym, ap, ◌∙◌, add-one, append_assoc, arith}
+use Rattle.std.proofs.Common.{◌≡◌, ◌≢◌, ℕ, zero, suc, ◌+◌, ◌-◌, ◌<◌, ◌≤◌, inl, inr, subst, List, [], ◌∷◌, ◌++◌, length, get_or, take, drop, Bool, true, false, Option, Some, None, refl, sym, ap, ◌∙◌, add-one, append_assoc, take-append-drop, arith}
 use Rattle.std.specs.Prelude.{◌==◌, ◌&&◌, not, if◌then◌else◌, slice_get}
+use Rattle.std.specs.List.{position}
+use Rattle.std.specs.Option.{option_map}
 use Rattle.std.specs.Str.{bytes_eq}
 use Rattle.std.proofs.lemmas.List.{drop_all, append-nil, take-append-le, take_all, length-append}
 use Rattle.std.proofs.lemmas.Bool.Decides.{eqb_tells}
 use Rattle.std.proofs.lemmas.Option.{slice_get-get_or, slice_get_within}
 use Rattle.btf_model.specs.Record.{Record, kind_number, unknown}
 use Rattle.btf_model.specs.Table.{Table}
+use Rattle.btf_model.specs.Text.{is_zero}
 use Rattle.btf_relocate_model.specs.Candidates.{candidate_limit, compared_number, ids_from, is_nameless}
 use Rattle.btf_relocate_model.specs.Name.{essential}
-use Rattle.btf_relocate_model.specs.Types.{name_or_none}
+use Rattle.btf_relocate_model.specs.Types.{bytes_or_none, name_or_none}
 use Rattle.btf_view.specs.TableRef.{AreOfOtherKinds}
 use Rattle.btf_relocate.specs.TargetIndex.{has_key}
 use Rattle.btf_relocate.proofs.Names.{begins_otherwise}
@@ -100,6 +103,18 @@ module _ (t : Table) (name own : List ℕ) (kind : ℕ) (r : Record) (is : own �
   named_otherwise b starts other =
       let differ : bytes_eq (essential (name_or_none t r.name)) name ≡ false = ap (λ (n : List ℕ). bytes_eq (essential n) name) (sym is) ∙ begins_otherwise name own b starts other in
       sym (ap (λ (e : Bool). same_kind && not (is_nameless (name_or_none t r.name)) && e) differ ∙ last_false same_kind (not (is_nameless (name_or_none t r.name))))
+
+-- the strings at its name's offset begin otherwise
+pub strings_otherwise : (t : Table) (name : List ℕ) (kind : ℕ) (r : Record) (b : Bool) → ((rest : List ℕ) → drop r.name t.strings ≡ name ++ rest → b ≡ true) → b ≡ false → false ≡ has_key t name kind r
+strings_otherwise t name kind r b starts other =
+    let here = drop r.name t.strings in
+    let read = λ (o : Option ℕ). bytes_or_none (option_map (λ (end : ℕ). take end here) o) in
+    let by_end : (o : Option ℕ) → position is_zero here ≡ o → false ≡ has_key t name kind r = λ o. elim o as (λ o. position is_zero here ≡ o → false ≡ has_key t name kind r) [
+      | None ↦ λ is. nameless t name [] kind r (sym (ap read is)) refl
+      | Some end ↦ λ is.
+          named_otherwise t name (take end here) kind r (sym (ap read is)) b (λ rest e. starts (rest ++ drop end here) (sym (take-append-drop end here) ∙ ap (λ (xs : List ℕ). xs ++ drop end here) e ∙ append_assoc name rest (drop end here))) other
+    ] in
+    by_end (position is_zero here) refl
 
 -- ---- ids whose types have other kinds
 

@@ -288,9 +288,12 @@ fn has_key(table: &TableRef<'_>, type_id: u32, name: &[u8], kind: u32) -> bool
     if compared_kind(&head) != kind {
         return false;
     }
+    // Most names begin otherwise, and neither their ends nor their flavors need be found.
+    if !table.begins(head.name, name) {
+        return false;
+    }
     let own_name = name_or_none(table, head.name);
-    // Most names begin otherwise, and their flavors need not be found.
-    if own_name.is_empty() || !own_name.starts_with(name) {
+    if own_name.is_empty() {
         return false;
     }
     essential_name(own_name) == name

@@ -1,6 +1,7 @@
 //! A table that is read, whatever holds it.
 
-ghost use Rattle.std.specs.Prelude.{◌≡◌, ◌<◌, ◌+◌, ◌^◌, IfSome, length, slice_get};
+ghost use Rattle.std.specs.Prelude.{◌≡◌, ◌<◌, ◌+◌, ◌^◌, IfSome, drop, length, nat_eq, slice_get};
+ghost use Rattle.std.specs.List.{starts_with};
 ghost use Rattle.std.specs.Option.{option_map};
 ghost use Rattle.btf_model.specs.Blob.{IsTable};
 ghost use Rattle.btf_model.specs.Text.{bytes_at};
@@ -206,6 +207,18 @@ impl<'a> TableRef<'a> {
         match &self.source {
             Source::Parsed(table) => table.resolve_type(type_id),
             Source::Viewed(table) => table.resolve(type_id),
+        }
+    }
+
+    /// Whether the string section has these bytes at a string offset. Most names begin otherwise than one that is sought,
+    /// and their ends need not be found.
+    #[inline(always)]
+    pub fn begins(&self, offset: u32, prefix: &[u8]) -> bool
+        ensures { result ≡ starts_with nat_eq (drop offset self.now.strings) prefix.now }
+    {
+        match self.strings.get(offset as usize..) {
+            Some(rest) => rest.starts_with(prefix),
+            None => prefix.is_empty(),
         }
     }
 
