@@ -81,22 +81,25 @@ passed_other strings readable records id number first end raw k name s is nonzer
     ]
 
 -- the number of a record's kind is that of the head
-number_seen : (records : List Record) (id : ℕ) (raw : Head) (s : Seen records id raw) → kind_number s.seen.info ≡ kind_number raw.info
-number_seen records id raw s = one_number (kind_number s.seen.info) (kind_number raw.info) s.read.kind (kind_seen records id raw s ∙ s.read.has) s.read.has
+pub number_seen : (records : List Record) (id n : ℕ) (raw : Head) (s : Seen records id raw) → n ≡ kind_number raw.info → n ≡ kind_number s.seen.info
+number_seen records id n raw s is = is ∙ sym (one_number (kind_number s.seen.info) (kind_number raw.info) s.read.kind (kind_seen records id raw s ∙ s.read.has) s.read.has)
 
--- the number is one of two that are sought
-pub next_seen : (records : List Record) (first id n kind other : ℕ) (raw : Head) → Seen records id raw → n ≡ kind_number raw.info → (n ≡ kind) ⊎ (n ≡ other) → first ≤ id → AreOfOtherKinds records first id kind other → IsNextOfKinds records first kind other (Some id)
-next_seen records first id n kind other raw s is one from below =
-    let same : kind_number s.seen.info ≡ n = number_seen records id raw s ∙ sym is in
-    (s.seen, s.there, from, elim one [ inl a ↦ inl (same ∙ a) | inr b ↦ inr (same ∙ b) ], below)
+-- it is one of two that are sought
+pub next_here : (records : List Record) (first id n kind other : ℕ) (r : Record) → slice_get records id ≡ Some r → n ≡ kind_number r.info → (n ≡ kind) ⊎ (n ≡ other) → first ≤ id → AreOfOtherKinds records first id kind other → IsNextOfKinds records first kind other (Some id)
+next_here records first id n kind other r there is one from below =
+    (r, there, from, elim one [ | inl a ↦ inl (sym is ∙ a) | inr b ↦ inr (sym is ∙ b) ], below)
 
 -- or none of them
-pub others_seen : (records : List Record) (first id n kind other : ℕ) (raw : Head) → Seen records id raw → n ≡ kind_number raw.info → n ≢ kind → n ≢ other → AreOfOtherKinds records first id kind other → AreOfOtherKinds records first (id + 1) kind other
-others_seen records first id n kind other raw s is a b below low r from lt there =
+pub others_here : (records : List Record) (first id n kind other : ℕ) (r : Record) → slice_get records id ≡ Some r → n ≡ kind_number r.info → n ≢ kind → n ≢ other → AreOfOtherKinds records first id kind other → AreOfOtherKinds records first (id + 1) kind other
+others_here records first id n kind other r there is a b below low q from lt has =
     elim (eqb_tells low id) [
       | inl same ↦
-          let one : r ≡ s.seen = same_Some r s.seen (sym there ∙ ap (slice_get records) same.1 ∙ s.there) in
-          let number : n ≡ kind_number r.info = is ∙ sym (number_seen records id raw s) ∙ ap (λ (x : Record). kind_number x.info) (sym one) in
-          (λ has. a (number ∙ has), λ has. b (number ∙ has))
-      | inr differ ↦ below low r from (omega (arith, lt, differ.1)) there
+          let one : r ≡ q = same_Some r q (sym there ∙ ap (slice_get records) (sym same.1) ∙ has) in
+          let number : n ≡ kind_number q.info = is ∙ ap (λ (x : Record). kind_number x.info) one in
+          (λ here. a (number ∙ here), λ here. b (number ∙ here))
+      | inr differ ↦ below low q from (omega (arith, lt, differ.1)) has
     ]
+
+-- the number of the kind in an info word
+pub number_told : (n info : ℕ) (k : Kind) (given : Kind) → slice_get model.kinds n ≡ Some k → k ≡ given → kind_of info ≡ Some given → n ≡ kind_number info
+number_told n info k given is same has = one_number n (kind_number info) given (is ∙ ap (λ (x : Kind). Some x) same) has

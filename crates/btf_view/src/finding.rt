@@ -26,7 +26,8 @@ pub enum Lookup {
 }
 
 /// The number of a kind.
-fn number_of(kind: BtfKind) -> u32
+#[inline(always)]
+pub(crate) fn number_of(kind: BtfKind) -> u32
     ensures { slice_get model.kinds result ≡ Some (kinds.kind kind) }
 {
     match kind {

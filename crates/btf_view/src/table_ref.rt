@@ -11,7 +11,7 @@ ghost use Rattle.btf_view.specs.Index.{IsIndexed};
 ghost use Rattle.btf_view.specs.TableRef.{IsNextOfKinds};
 ghost use Rattle.btf_view.specs.TypeRef.{first_three, record_in};
 
-use crate::finding::next_of_kinds_in;
+use crate::finding::{next_of_kinds_in, number_of};
 use crate::indexing::Sections;
 use crate::type_ref::{TypeRef, third_of};
 use crate::view::View;
@@ -242,7 +242,7 @@ fn next_in_table(table: &Btf, first: u32, kind: u32, other: u32) -> Option<u32>
         let Ok(btf_type) = table.type_by_id(id) else {
             return None;
         };
-        let number = btf_type.info() >> 24 & 0x1f;
+        let number = number_of(btf_type.kind());
         if number == kind || number == other {
             return Some(id);
         }
