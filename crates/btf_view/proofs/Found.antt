@@ -87,7 +87,7 @@ number_seen records id n raw s is = is ∙ sym (one_number (kind_number s.seen.i
 -- it is one of two that are sought
 pub next_here : (records : List Record) (first id n kind other : ℕ) (r : Record) → slice_get records id ≡ Some r → n ≡ kind_number r.info → (n ≡ kind) ⊎ (n ≡ other) → first ≤ id → AreOfOtherKinds records first id kind other → IsNextOfKinds records first kind other (Some id)
 next_here records first id n kind other r there is one from below =
-    (r, there, from, elim one [ | inl a ↦ inl (sym is ∙ a) | inr b ↦ inr (sym is ∙ b) ], below)
+    (r, there, from, elim one [ inl a ↦ inl (sym is ∙ a) | inr b ↦ inr (sym is ∙ b) ], below)
 
 -- or none of them
 pub others_here : (records : List Record) (first id n kind other : ℕ) (r : Record) → slice_get records id ≡ Some r → n ≡ kind_number r.info → n ≢ kind → n ≢ other → AreOfOtherKinds records first id kind other → AreOfOtherKinds records first (id + 1) kind other
