@@ -21,27 +21,27 @@ use Rattle.btf_relocate_model.specs.Enumerator.{narrow_enumerators, wide_enumera
 use Rattle.btf_relocate_model.specs.Name.{essential}
 use Rattle.btf_relocate_model.specs.Types.{name_at, resolved_record}
 use Rattle.btf_relocate_model.specs.declared.error.RelocationError.{RelocationError}
-use Rattle.btf_relocate.specs.Enumerators.{enumerator_variant, narrow, type_enumerators, wide}
+use Rattle.btf_relocate.specs.Enumerators.{enumerator_variant, narrow_variant, type_enumerators, wide_variant}
 use Rattle.btf_relocate.specs.declared.enumerator.Enumerator.{Enumerator}
 
-narrow_back : (es : List BtfEnum) → narrow_enumerators (flat_map enum_words es) ≡ map narrow es
+narrow_back : (es : List BtfEnum) → narrow_enumerators (flat_map enum_words es) ≡ map narrow_variant es
 narrow_back [] = refl
-narrow_back (e ∷ es) = ap (λ (vs : List Variant). narrow e ∷ vs) (narrow_back es)
+narrow_back (e ∷ es) = ap (λ (vs : List Variant). narrow_variant e ∷ vs) (narrow_back es)
 
-wide_back : (es : List BtfEnum64) → wide_enumerators (flat_map enum64_words es) ≡ map wide es
+wide_back : (es : List BtfEnum64) → wide_enumerators (flat_map enum64_words es) ≡ map wide_variant es
 wide_back [] = refl
-wide_back (e ∷ es) = ap (λ (vs : List Variant). wide e ∷ vs) (wide_back es)
+wide_back (e ∷ es) = ap (λ (vs : List Variant). wide_variant e ∷ vs) (wide_back es)
 
 -- the enumerators of an ENUM
 pub enum_has : (b : BtfType) (t : Record) (es : List BtfEnum) → b ≡ variants.Enum t → kind_of (record_of b).info ≡ Some (type_kind b) → t.tail ≡ flat_map enum_words es
-    → map narrow es ≡ type_enumerators (record_of b)
+    → map narrow_variant es ≡ type_enumerators (record_of b)
 enum_has b t es is kind tail =
     let here : kind_of t.info ≡ Some model.Enum = subst (λ (x : BtfType). kind_of (record_of x).info ≡ Some (type_kind x)) is kind in
     rw (is, here, tail) (sym (narrow_back es))
 
 -- the enumerators of an ENUM64
 pub enum64_has : (b : BtfType) (t : Record) (es : List BtfEnum64) → b ≡ variants.Enum64 t → kind_of (record_of b).info ≡ Some (type_kind b) → t.tail ≡ flat_map enum64_words es
-    → map wide es ≡ type_enumerators (record_of b)
+    → map wide_variant es ≡ type_enumerators (record_of b)
 enum64_has b t es is kind tail =
     let here : kind_of t.info ≡ Some model.Enum64 = subst (λ (x : BtfType). kind_of (record_of x).info ≡ Some (type_kind x)) is kind in
     rw (is, here, tail) (sym (wide_back es))

@@ -21,7 +21,7 @@ use Rattle.btf_relocate_model.specs.Enumerator.{enumerators_by, narrow_enumerato
 use Rattle.btf_relocate_model.specs.Field.{Member, members_by, members_in, members_of}
 use Rattle.btf_relocate_model.specs.Instruction.{sign_extended}
 use Rattle.btf_relocate.specs.Members.{member_of, parameters_by, parameters_of}
-use Rattle.btf_relocate.specs.Enumerators.{narrow, wide}
+use Rattle.btf_relocate.specs.Enumerators.{narrow_variant, wide_variant}
 use Rattle.btf_view.specs.TypeRef.{first_words, item_at}
 use Rattle.btf_view.proofs.Words.{no_item}
 
@@ -191,16 +191,16 @@ narrow_read = record {
   next = λ xs ws is. ap (λ (ys : List ℕ). narrow_enumerators (ys ++ ws)) (two_words xs is);
 }
 
-narrow_values : (o : Option BtfEnum) → option_map narrow o ≡ option_map narrow_from (option_map enum_words o)
+narrow_values : (o : Option BtfEnum) → option_map narrow_variant o ≡ option_map narrow_from (option_map enum_words o)
 unfolding narrow_from
 narrow_values None = refl
 narrow_values (Some e) = refl
 
-pub narrow_item : (ws : List ℕ) (i : ℕ) (o : Option BtfEnum) → option_map enum_words o ≡ item_at 2 ws i → option_map narrow o ≡ slice_get (narrow_enumerators ws) i
+pub narrow_item : (ws : List ℕ) (i : ℕ) (o : Option BtfEnum) → option_map enum_words o ≡ item_at 2 ws i → option_map narrow_variant o ≡ slice_get (narrow_enumerators ws) i
 narrow_item ws i o is = narrow_values o ∙ ap (option_map narrow_from) is ∙ item_read 2 narrow_enumerators narrow_from narrow_read ws i
 
 wide_from : List ℕ → Variant
-wide_from ws = wide (record { name_offset = slice_index ws 0; value_low = slice_index ws 1; value_high = slice_index ws 2 })
+wide_from ws = wide_variant (record { name_offset = slice_index ws 0; value_low = slice_index ws 1; value_high = slice_index ws 2 })
 
 few_wide : (ws : List ℕ) → length ws < 3 → wide_enumerators ws ≡ []
 few_wide [] lt = refl
@@ -216,12 +216,12 @@ wide_read = record {
   next = λ xs ws is. ap (λ (ys : List ℕ). wide_enumerators (ys ++ ws)) (three_words xs is);
 }
 
-wide_values : (o : Option BtfEnum64) → option_map wide o ≡ option_map wide_from (option_map enum64_words o)
+wide_values : (o : Option BtfEnum64) → option_map wide_variant o ≡ option_map wide_from (option_map enum64_words o)
 unfolding wide_from
 wide_values None = refl
 wide_values (Some e) = refl
 
-pub wide_item : (ws : List ℕ) (i : ℕ) (o : Option BtfEnum64) → option_map enum64_words o ≡ item_at 3 ws i → option_map wide o ≡ slice_get (wide_enumerators ws) i
+pub wide_item : (ws : List ℕ) (i : ℕ) (o : Option BtfEnum64) → option_map enum64_words o ≡ item_at 3 ws i → option_map wide_variant o ≡ slice_get (wide_enumerators ws) i
 wide_item ws i o is = wide_values o ∙ ap (option_map wide_from) is ∙ item_read 3 wide_enumerators wide_from wide_read ws i
 
 -- the enumerators and their number, by the kind

@@ -12,11 +12,11 @@ abbrev pub enumerator_variant : Enumerator → Variant
 enumerator_variant e = record { name = e.name_offset; value = e.value }
 
 -- the enumerators of an ENUM and of an ENUM64
-abbrev pub narrow : BtfEnum → Variant
-narrow e = record { name = e.name_offset; value = sign_extended 32 e.value }
+abbrev pub narrow_variant : BtfEnum → Variant
+narrow_variant e = record { name = e.name_offset; value = sign_extended 32 e.value }
 
-abbrev pub wide : BtfEnum64 → Variant
-wide e = record { name = e.name_offset; value = e.value_high * 2 ^ 32 + e.value_low }
+abbrev pub wide_variant : BtfEnum64 → Variant
+wide_variant e = record { name = e.name_offset; value = e.value_high * 2 ^ 32 + e.value_low }
 
 -- the enumerators of a type
 abbrev pub type_enumerators : Record → List Variant

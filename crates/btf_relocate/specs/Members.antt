@@ -13,9 +13,9 @@ abbrev pub member_of : BtfMember → Member
 member_of m = record { name = m.name_offset; type = m.btf_type; offset = m.offset }
 
 -- the members of a type, whatever holds its table
-abbrev pub members_in : Members → List Member
-members_in (holder.Parsed members) = map member_of members.now
-members_in (holder.Viewed t) = members_of (record_in t)
+abbrev pub members_held : Members → List Member
+members_held (holder.Parsed members) = map member_of members.now
+members_held (holder.Viewed t) = members_of (record_in t)
 
 -- where a member begins, and the number of bits of a bit-field, else 0, by the info word and the member's last word
 abbrev pub member_bits : ℕ → ℕ → ℕ × ℕ

@@ -17,7 +17,7 @@ use Rattle.btf_relocate_model.specs.declared.comparison.Pair.{Pair}
 use Rattle.btf_relocate_model.specs.declared.comparison.Rule.{Rule}
 use Rattle.btf_relocate_model.specs.declared.error.RelocationError.{RelocationError}
 use Rattle.btf_relocate_model.specs.declared.error.RelocationError.TheVariants.{OutOfMemory, MaximumTypeDepthReached}
-use Rattle.btf_relocate.specs.Members.{members_in, parameters_of}
+use Rattle.btf_relocate.specs.Members.{members_held, parameters_of}
 use Rattle.btf_relocate.specs.declared.types.Frame.{Frame}
 use Rattle.btf_relocate.specs.declared.types.steps.Step.{Step}
 use Rattle.btf_relocate.specs.declared.types.steps.Step.TheVariants as code
@@ -33,7 +33,7 @@ step_view (code.Ends is_alike) = model.Ends is_alike
 step_view (code.GoesOn p) = model.GoesOn p
 step_view (code.EachParameter one other returned) =
     model.EachParameter (parameters_of (record_in one)) (parameters_of (record_in other)) returned
-step_view (code.EachMember members others) = model.EachMember (members_in members) (members_in others)
+step_view (code.EachMember members others) = model.EachMember (members_held members) (members_held others)
 
 abbrev pub comparison : Rule → Table → Table → Comparison
 comparison rule local target = record { rule = rule; local = local; target = target }

@@ -5,7 +5,7 @@ ghost use Rattle.std.specs.Option.{option_map};
 ghost use Rattle.btf_records.specs.BtfType.{record_of};
 ghost use Rattle.btf_view.specs.TypeRef.{record_in};
 ghost use Rattle.btf_relocate_model.specs.Enumerator as model;
-ghost use Rattle.btf_relocate.specs.Enumerators.{enumerator_variant, narrow, type_enumerators, wide};
+ghost use Rattle.btf_relocate.specs.Enumerators.{enumerator_variant, narrow_variant, type_enumerators, wide_variant};
 ghost use Rattle.btf_relocate.specs.Gives.{IsBy};
 
 use crate::instruction::sign_extended_32;
@@ -41,7 +41,7 @@ impl Enumerator {
 /// The enumerator of an ENUM.
 #[inline(always)]
 fn narrow(variant: &BtfEnum) -> Enumerator
-    ensures { enumerator_variant result ≡ narrow variant.now }
+    ensures { enumerator_variant result ≡ narrow_variant variant.now }
 {
     Enumerator {
         name_offset: variant.name_offset,
@@ -52,7 +52,7 @@ fn narrow(variant: &BtfEnum) -> Enumerator
 /// The enumerator of an ENUM64.
 #[inline(always)]
 fn wide(variant: &BtfEnum64) -> Enumerator
-    ensures { enumerator_variant result ≡ wide variant.now }
+    ensures { enumerator_variant result ≡ wide_variant variant.now }
 {
     Enumerator {
         name_offset: variant.name_offset,

@@ -7,7 +7,7 @@ ghost use Rattle.btf_model.specs.Record as model;
 ghost use Rattle.btf_plain.specs.Kind as kinds;
 ghost use Rattle.btf_records.specs.BtfType.{record_of};
 ghost use Rattle.btf_relocate_model.specs.Field.{members_of};
-ghost use Rattle.btf_relocate.specs.Members.{IsArrayOf, member_of, members_in, parameters_of};
+ghost use Rattle.btf_relocate.specs.Members.{IsArrayOf, member_of, members_held, parameters_of};
 ghost use Rattle.btf_view.specs.TypeRef.{record_in};
 
 use btf_plain::{BtfArray, BtfKind, BtfMember, BtfParam};
@@ -91,13 +91,13 @@ impl<'t> Members<'t> {
     ghost use Rattle.std.specs.Prelude.{◌≡◌, ◌<◌, IfSome, length, slice_get};
     ghost use Rattle.std.specs.Option.{option_map};
     ghost use Rattle.btf_relocate_model.specs.Field.{members_of};
-    ghost use Rattle.btf_relocate.specs.Members.{member_of, members_in};
+    ghost use Rattle.btf_relocate.specs.Members.{member_of, members_held};
     ghost use Rattle.btf_view.specs.TypeRef.{record_in};
 
     /// The members of a type; none for a type that is no STRUCT or UNION.
     #[inline(always)]
     pub fn of(btf_type: &TypeRef<'t>) -> Members<'t>
-        ensures { members_in result ≡ members_of (record_in btf_type.now) }
+        ensures { members_held result ≡ members_of (record_in btf_type.now) }
     {
         match btf_type {
             TypeRef::Parsed(parsed) => Members::Parsed(parsed_members(parsed)),
@@ -108,7 +108,7 @@ impl<'t> Members<'t> {
     /// Their number.
     #[inline(always)]
     pub fn len(&self) -> usize
-        ensures { result ≡ length (members_in self.now) }
+        ensures { result ≡ length (members_held self.now) }
     {
         match self {
             Members::Parsed(members) => members.len(),
@@ -119,7 +119,7 @@ impl<'t> Members<'t> {
     /// The member at an index; `None` if there is none.
     #[inline(always)]
     pub fn get(&self, index: usize) -> Option<BtfMember>
-        ensures member { option_map member_of result ≡ slice_get (members_in self.now) index }
+        ensures member { option_map member_of result ≡ slice_get (members_held self.now) index }
         ensures small { IfSome result (λ _. index < usize.MAX) }
     {
         match self {

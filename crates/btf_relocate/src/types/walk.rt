@@ -4,7 +4,7 @@ ghost use Rattle.std.specs.Prelude.{◌≡◌, ◌<◌, ◌≤◌, drop, length,
 ghost use Rattle.btf_relocate_model.specs.Comparison as model;
 ghost use Rattle.btf_view.specs.TypeRef.{record_in};
 ghost use Rattle.btf_relocate.specs.Comparing.{LeavesFewer, LeavesFewerPlaces};
-ghost use Rattle.btf_relocate.specs.Members.{member_of, members_in, parameters_of};
+ghost use Rattle.btf_relocate.specs.Members.{member_of, members_held, parameters_of};
 ghost use Rattle.btf_relocate.specs.Steps.{Continues, NamedMember, NextMember, comparison, ResumesParameters};
 
 use super::Frame;
@@ -116,8 +116,8 @@ fn next_member(
     members: &Members<'_>,
     others: &Members<'_>,
 ) -> Result<Next, RelocationError>
-    ensures next { NextMember local.now target.now (members_in members.now)
-        (members_in others.now) frame.now.index frame.now.other answer result }
+    ensures next { NextMember local.now target.now (members_held members.now)
+        (members_held others.now) frame.now.index frame.now.other answer result }
     ensures fewer { IfOk result (LeavesFewerPlaces frame.now.index frame.now.other) }
 {
     let (index, from) = match answer {
@@ -150,9 +150,9 @@ fn match_member(
     from: usize,
 ) -> Result<Option<(u32, usize)>, RelocationError>
     ensures found { NamedMember local.now target.now (member_of member.now)
-        (members_in others.now) (drop from (members_in others.now)) result }
+        (members_held others.now) (drop from (members_held others.now)) result }
     ensures later { IfOk result (λ found. IfSome found (λ p. (from < p.1)
-        × (p.1 ≤ length (members_in others.now)))) }
+        × (p.1 ≤ length (members_held others.now)))) }
 {
     for index in from..others.len() {
         let Some(found) = others.get(index) else {

@@ -1,7 +1,7 @@
 use Rattle.std.proofs.Common.{Result, Ok, sym, ap, ◌∙◌}
 use Rattle.btf_relocate_model.specs.Comparison as model
 use Rattle.btf_relocate_model.specs.declared.error.RelocationError.{RelocationError}
-use Rattle.btf_relocate.specs.Members.{members_in, parameters_of}
+use Rattle.btf_relocate.specs.Members.{members_held, parameters_of}
 use Rattle.btf_view.specs.TypeRef.{record_in}
 use Rattle.btf_relocate.specs.Steps.{comparison, step_view}
 use Rattle.btf_relocate.specs.declared.types.steps.Step.{Step}
@@ -19,5 +19,5 @@ returns-in-EachParameter-clause-continues c =
 pub returns-in-EachMember-clause-continues : goal.returns-in-EachMember-clause-continues
 returns-in-EachMember-clause-continues c =
     let whole = comparison c.args.rule c.args.local.now c.args.target.now in
-    continues_member whole c.args.frame.now c.args.answer c.if-frame-eq0.false c.in_ok-at.at (sym c.in_ok-at.ensures) (members_in c.in-EachMember.members) (members_in c.in-EachMember.others)
+    continues_member whole c.args.frame.now c.args.answer c.if-frame-eq0.false c.in_ok-at.at (sym c.in_ok-at.ensures) (members_held c.in-EachMember.members) (members_held c.in-EachMember.others)
     (c.in_ok-is_alike.ensures ∙ ap (λ (x : Step). let r : Result model.Step RelocationError = Ok (step_view x) in r) c.in-EachMember.is) c.next_member.result c.next_member.ensures.next
