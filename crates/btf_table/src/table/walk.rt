@@ -127,7 +127,6 @@ fn extent_at(btf_type: &BtfType) -> Extent
 }
 
 /// The product, or `InvalidTypeInfo` if it exceeds 32 bits.
-#[inline(always)]
 pub fn product(a: u32, b: u32) -> Result<u32, BtfError>
     ensures { MatchResult result
         (λ n. (n ≡ a * b) × (a * b < 2 ^ 32))
