@@ -42,6 +42,15 @@ no_flavor_more (x ∷ name) (suc i) lt at none = no_flavor_more name i (omega (a
 
 -- ---- the loop, which goes down from the end of the name
 
+-- four bytes have no flavor
+pub no_room : (name : List ℕ) → length name ≤ 4 → has_flavor name ≡ false
+no_room [] le = refl
+no_room (a ∷ []) le = refl
+no_room (a ∷ b ∷ []) le = refl
+no_room (a ∷ b ∷ c ∷ []) le = refl
+no_room (a ∷ b ∷ c ∷ d ∷ []) le = refl
+no_room (a ∷ b ∷ c ∷ d ∷ e ∷ name) le = absurd (omega (arith, le))
+
 from_here : (name : List ℕ) (n i : ℕ) → n ≡ suc i → n ≤ length name → (take (length name - (n - 1)) (drop (n - 1) name)) ≡ drop i name
 from_here name n i is le = let there : n - 1 ≡ i = omega (arith, is) in rw there (take_all (length name - i) (drop i name) (omega (arith, length-drop i name)))
 

@@ -12,7 +12,8 @@ ghost use Rattle.btf_relocate_model.specs.Name.{essential};
 pub fn essential_name(name: &[u8]) -> &[u8]
     ensures { result.now ≡ essential name.now }
 {
-    for last in (0..name.len()).rev() {
+    // A flavor is four bytes long at least.
+    for last in (0..name.len().saturating_sub(4)).rev() {
         // A flavor begins after the byte at this place.
         if let [before, b'_', b'_', b'_', after, ..] = &name[last..]
             && *before != b'_'
