@@ -5,10 +5,10 @@ ghost use Rattle.btfobj_cli.specs.InPlace.{HasBytesInPlace};
 
 use crate::fault::Fault;
 use crate::input_file::InputFile;
-use crate::split::continues_base;
+use crate::split::{Bounds, referred};
 use btf_model::Endianness;
 use btf_plain::BtfError;
-use btf_view::{Sections, TableRef, Unindexed, index};
+use btf_view::{Sections, TableRef, TypeWords, Unindexed, View, index};
 use std::alloc::Global;
 use std::marker::Model;
 
@@ -18,6 +18,17 @@ const USUAL_LENGTH: usize = 32;
 /// The length in bytes of the shortest record.
 const LEAST_LENGTH: usize = 12;
 
+/// The number of types whose words are read at once.
+const AT_ONCE: usize = 64;
+
+/// The words of no type.
+const NO_WORDS: TypeWords = TypeWords {
+    kind: 0,
+    name_offset: 0,
+    info: 0,
+    size_or_type: 0,
+};
+
 /// The bytes of a file's table, and where its records are. Nothing of the table is copied.
 #[derive(Drop)]
 pub struct TableInPlace<'a> {
@@ -25,6 +36,16 @@ pub struct TableInPlace<'a> {
     endianness: Endianness,
     sections: Sections,
     places: Vec<u32>,
+}
+
+/// Whether a type has a name, or refers to a type, that is not in a table with these bounds.
+#[inline(always)]
+fn is_outside(bounds: &Bounds, words: &TypeWords) -> bool {
+    // Few third words are no ids of the table, and of these only some are ids and not sizes.
+    if bounds.exclude(words.name_offset, words.size_or_type) {
+        return bounds.exclude(words.name_offset, referred(words));
+    }
+    false
 }
 
 impl<'a> Model for TableInPlace<'a> {
@@ -55,7 +76,7 @@ impl<'a> TableInPlace<'a> {
         }
         let bytes = input.table_bytes()?;
         let table = TableInPlace::index(alloc, bytes, input.endianness())?;
-        if continues_base(&table.table(), table.strings()) {
+        if table.continues_base() {
             return Err(Fault::Split);
         }
         Ok(table)
@@ -102,10 +123,30 @@ impl<'a> TableInPlace<'a> {
         }
     }
 
-    /// The string section.
-    fn strings(&self) -> &'a [u8] {
-        let first = self.sections.strings_at;
-        &self.bytes[first..first + self.sections.strings_len]
+    /// Whether the table continues a base.
+    fn continues_base(&self) -> bool {
+        let view = self.view();
+        let types = self.table().type_count();
+        let bounds = Bounds::new(view.strings, types);
+        let mut words = [NO_WORDS; AT_ONCE];
+        for first in (0..types).step_by(AT_ONCE) {
+            let count = view.types(first, &mut words);
+            if words.iter().take(count).any(|it| is_outside(&bounds, it)) {
+                return true;
+            }
+        }
+        false
+    }
+
+    /// The bytes of both sections, and the places of the records.
+    fn view(&self) -> View<'_> {
+        let (types, strings) = (self.sections.types_at, self.sections.strings_at);
+        View {
+            endianness: self.endianness,
+            types: &self.bytes[types..types + self.sections.types_len],
+            strings: &self.bytes[strings..strings + self.sections.strings_len],
+            places: &self.places[..self.sections.count],
+        }
     }
 
     /// The table.

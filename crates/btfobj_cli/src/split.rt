@@ -2,32 +2,41 @@
 
 use crate::fault::Fault;
 use crate::input_file::InputFile;
-use btf_plain::{BtfKind, Head};
+use btf_plain::BtfKind;
 use btf_records::BtfType;
 use btf_table::{Btf, readable_end, string_section, type_count};
-use btf_view::TableRef;
+use btf_view::TypeWords;
 use std::alloc::Global;
 
-/// Whether the name of a type, or the type that it refers to, is not in the table, whose strings are these. The names
-/// and ids of split BTF begin after those of its base table, so few of them are in the table itself.
-pub fn continues_base(table: &TableRef<'_>, strings: &[u8]) -> bool {
+/// What a table has. The names and ids of split BTF begin after those of its base table, so few of those that its types
+/// name are in the table itself.
+#[derive(Clone, Copy)]
+pub struct Bounds {
     // A name can be read at each offset below this end.
-    let end = readable_end(strings);
-    let count = table.type_count();
-    for type_id in 0..count {
-        let Some(head) = table.head(type_id) else {
-            return false;
-        };
-        if head.name as usize >= end || referred(&head) >= count {
-            return true;
+    names_end: usize,
+    types: u32,
+}
+
+impl Bounds {
+    /// The bounds of a table with these strings and this many types.
+    pub fn new(strings: &[u8], types: u32) -> Bounds {
+        Bounds {
+            names_end: readable_end(strings),
+            types,
         }
     }
-    false
+
+    /// Whether a type's name of this string offset, or the type of this id that it refers to, is not in the table.
+    #[inline(always)]
+    pub fn exclude(&self, name: u32, referred: u32) -> bool {
+        name as usize >= self.names_end || referred >= self.types
+    }
 }
 
 /// The id of the one type that a type refers to; 0 if it refers to none or to many, or is a function.
-fn referred(head: &Head) -> u32 {
-    match BtfKind::try_from(head.kind()) {
+#[inline(always)]
+pub fn referred(words: &TypeWords) -> u32 {
+    match BtfKind::try_from(words.kind) {
         Ok(
             BtfKind::Ptr
             | BtfKind::Typedef
@@ -38,14 +47,20 @@ fn referred(head: &Head) -> u32 {
             | BtfKind::Var
             | BtfKind::DeclTag
             | BtfKind::TypeTag,
-        ) => head.third,
+        ) => words.size_or_type,
         _ => 0,
     }
 }
 
 /// Whether a table that was parsed continues a base.
 pub fn is_split(table: &Btf) -> bool {
-    continues_base(&TableRef::of_table(table), string_section(table))
+    let bounds = Bounds::new(string_section(table), type_count(table));
+    for btf_type in table.types() {
+        if bounds.exclude(btf_type.name_offset(), btf_type.btf_type().unwrap_or(0)) {
+            return true;
+        }
+    }
+    false
 }
 
 /// The table of a file, if it has one.
